@@ -18,13 +18,13 @@ use Rattle.resolution_laws.proofs.Existence.{basis_of_pairs, exact_of_pairs}
 use Rattle.resolution_laws.specs.Resolutions.{IsCanonical, IsCanonicalMap, IsExact}
 use Rattle.above_examples.proofs.SquareBasis.{generators_map, generators_monic, plane_lawful}
 use Rattle.above_examples.proofs.Terms.{cancels, each_at, exponents_divide, undivided}
-use Rattle.above_examples.specs.Square.{generators, monomial, plane, relations, resolution}
+use Rattle.above_examples.specs.Square.{monomial, relations, resolution, square_generators, square_setting}
 
 abbrev up : Setting 2
-up = induced_setting plane generators
+up = induced_setting square_setting square_generators
 
 up_lawful : IsLawful up
-up_lawful = IsLawful_induced plane plane_lawful generators generators_monic
+up_lawful = IsLawful_induced square_setting plane_lawful square_generators generators_monic
 
 relations_normal : (i : ℕ) → i < length relations → IsNormal up (get_or relations i [])
 relations_normal = each_at (IsNormal up) [] relations (
@@ -37,14 +37,14 @@ relations_monic = IsMonicList_normal up up_lawful relations relations_normal
     (each_at (λ v. head_coefficient v ≡ 1) [] relations (refl, (refl, tt)))
     (each_at (λ v. (head_key v).0 < 3) [] relations (omega arith, (omega arith, tt)))
 
-relations_syzygies : (c : ℕ) → c < length relations → IsSyzygy 101 generators (get_or relations c [])
-relations_syzygies = each_at (IsSyzygy 101 generators) [] relations (
+relations_syzygies : (c : ℕ) → c < length relations → IsSyzygy 101 square_generators (get_or relations c [])
+relations_syzygies = each_at (IsSyzygy 101 square_generators) [] relations (
   record { rank = IsOfRank_of 101 3 (((0, monomial 0 1), 1) ∷ (((1, monomial 1 0), 100) ∷ [])) (omega arith, (omega arith, tt)); vanishes = cancels (0, monomial 2 1) },
   (record { rank = IsOfRank_of 101 3 (((1, monomial 0 1), 1) ∷ (((2, monomial 1 0), 100) ∷ [])) (omega arith, (omega arith, tt)); vanishes = cancels (0, monomial 1 2) }, tt),
 )
 
 -- the leads of the relations cover those of the pairs
-relations_pairs : (i j : ℕ) → i < j → j < 3 → (leads generators i).0 ≡ (leads generators j).0 → IsCovered up relations (pair_lead_key generators i j)
+relations_pairs : (i j : ℕ) → i < j → j < 3 → (leads square_generators i).0 ≡ (leads square_generators j).0 → IsCovered up relations (pair_lead_key square_generators i j)
 relations_pairs zero (suc zero) lt h e = IsCovered_monic up up_lawful relations relations_monic 0 _ (omega arith) (monomial 0 0, refl)
 relations_pairs zero (suc (suc zero)) lt h e = IsCovered_monic up up_lawful relations relations_monic 0 _ (omega arith) (monomial 0 1, refl)
 relations_pairs (suc zero) (suc (suc zero)) lt h e = IsCovered_monic up up_lawful relations relations_monic 1 _ (omega arith) (monomial 0 0, refl)
@@ -53,8 +53,8 @@ relations_pairs i (suc (suc (suc j))) lt h e = absurd (omega (arith, h))
 relations_pairs (suc i) (suc zero) lt h e = absurd (omega (arith, lt))
 relations_pairs (suc (suc i)) (suc (suc zero)) lt h e = absurd (omega (arith, lt))
 
-pub relations_exact : IsExact 101 generators relations
-relations_exact = exact_of_pairs plane plane_lawful generators generators_monic relations relations_monic relations_syzygies relations_pairs
+pub relations_exact : IsExact 101 square_generators relations
+relations_exact = exact_of_pairs square_setting plane_lawful square_generators generators_monic relations relations_monic relations_syzygies relations_pairs
 
 relations_apart :
     (i j : ℕ) (k : Key 2) → i < 2 → j < 2 → (i ≡ j → ⊥) → KeyDivides (leads relations j) k → IsCongruent 101 (coefficient (get_or relations i []) k) 0
@@ -78,7 +78,7 @@ relations_map = record {
   columns = omega arith;
   basis = record {
     reduced = record {
-      basis = basis_of_pairs plane plane_lawful generators generators_monic relations relations_monic relations_syzygies relations_pairs;
+      basis = basis_of_pairs square_setting plane_lawful square_generators generators_monic relations relations_monic relations_syzygies relations_pairs;
       normal = relations_normal;
       monic = relations_monic.monic;
       apart = relations_apart;
@@ -97,5 +97,5 @@ relations_last = exact_of_pairs up up_lawful relations relations_monic [] (recor
     none i (suc (suc j)) lt h e = absurd (omega (arith, h))
     none (suc i) (suc zero) lt h e = absurd (omega (arith, lt))
 
-pub square_canonical : IsCanonical plane generators resolution
+pub square_canonical : IsCanonical square_setting square_generators resolution
 square_canonical = (generators_map, (relations_exact, relations_map, relations_last))

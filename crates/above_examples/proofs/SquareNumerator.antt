@@ -10,7 +10,7 @@ use Rattle.hilbert_laws.proofs.Orders.{order_of_division, series_same}
 use Rattle.hilbert_laws.proofs.Recurrence.{IsNumerator_one, IsNumerator_position, series_nothing}
 use Rattle.hilbert_laws.specs.Dimensions.{HasDimension, of_order}
 use Rattle.hilbert_laws.specs.Numerators.{IsNumerator, divided_by, module_count, value_at_one}
-use Rattle.above_examples.specs.Square.{generators, monomial, numerator}
+use Rattle.above_examples.specs.Square.{monomial, numerator, square_generators}
 
 abbrev mono : ℕ → ℕ → Exponents 2
 mono a b = monomial a b
@@ -42,8 +42,8 @@ same (suc (suc (suc zero))) = refl
 same (suc (suc (suc (suc zero)))) = refl
 same (suc (suc (suc (suc (suc i))))) = refl
 
-pub square_numerator : IsNumerator [] 2 numerator (module_count [] 1 (map head_key generators))
-square_numerator = IsNumerator_position 2 0 [] (map head_key generators) [] numerator (λ d. series_nothing [] 2 d) (λ d. series_same [] 2 numerator (pos 1 ∷ (pos 0 ∷ (negsuc 2 ∷ (pos 2 ∷ (pos 0 ∷ []))))) same d ∙ of_three d)
+pub square_numerator : IsNumerator [] 2 numerator (module_count [] 1 (map head_key square_generators))
+square_numerator = IsNumerator_position 2 0 [] (map head_key square_generators) [] numerator (λ d. series_nothing [] 2 d) (λ d. series_same [] 2 numerator (pos 1 ∷ (pos 0 ∷ (negsuc 2 ∷ (pos 2 ∷ (pos 0 ∷ []))))) same d ∙ of_three d)
 
 pub square_dimension : HasDimension 2 numerator (pos 0) (pos 3)
 square_dimension = of_order 2 (pos 3) (order_of_division numerator 2 (pos 3) (record { vanishes = vanishes; value = refl; nonzero = λ e. absurd (omega (arith, ints, e)) }))

@@ -16,7 +16,7 @@ use Rattle.minimal_laws.specs.Minimal.{HasConstant, IsMinimal, Presents}
 use Rattle.above_examples.proofs.SquareBasis.{plane_lawful}
 use Rattle.above_examples.proofs.SquareMaps.{square_canonical}
 use Rattle.above_examples.proofs.Terms.{absent, at_key, each_at}
-use Rattle.above_examples.specs.Square.{generators, monomial, plane, resolution, table}
+use Rattle.above_examples.specs.Square.{monomial, resolution, square_generators, square_setting, table}
 
 -- no column has a term of degree 0
 abbrev pub HasNoUnit : {n : ℕ} → GradedMap n → Type 0
@@ -59,17 +59,17 @@ one_degree m e = record { rank = IsOfRank_of 101 1 (((0, m), 1) ∷ []) (omega a
     go k nz (inl a) = a
     go k nz (inr z) = absurd (nz (IsCongruent_of 101 _ 0 z))
 
-generators_homogeneous : AreHomogeneous [] 101 (0 ∷ []) (2 ∷ (2 ∷ (2 ∷ []))) generators
+generators_homogeneous : AreHomogeneous [] 101 (0 ∷ []) (2 ∷ (2 ∷ (2 ∷ []))) square_generators
 generators_homogeneous = record { count = refl; each = each }
   where
-    each : (i : ℕ) → i < 3 → IsHomogeneous [] 101 (0 ∷ []) (get_or (2 ∷ (2 ∷ (2 ∷ []))) i 0) (get_or generators i [])
+    each : (i : ℕ) → i < 3 → IsHomogeneous [] 101 (0 ∷ []) (get_or (2 ∷ (2 ∷ (2 ∷ []))) i 0) (get_or square_generators i [])
     each zero h = one_degree (monomial 2 0) refl
     each (suc zero) h = one_degree (monomial 1 1) refl
     each (suc (suc zero)) h = one_degree (monomial 0 2) refl
     each (suc (suc (suc i))) h = absurd (omega (arith, h))
 
-pub square_minimal : IsMinimal [] 101 square_list × Presents [] 101 square_list (0 ∷ []) generators
-square_minimal = canonical_cancelled plane plane_lawful [] (0 ∷ []) (2 ∷ (2 ∷ (2 ∷ []))) generators refl generators_homogeneous resolution square_canonical square_list square_cancelled
+pub square_minimal : IsMinimal [] 101 square_list × Presents [] 101 square_list (0 ∷ []) square_generators
+square_minimal = canonical_cancelled square_setting plane_lawful [] (0 ∷ []) (2 ∷ (2 ∷ (2 ∷ []))) square_generators refl generators_homogeneous resolution square_canonical square_list square_cancelled
 
 once : (b : Bool) → ◌≡◌ {A = ℕ} (cond b 1 0 + 0) (cond b 1 0)
 once true = refl

@@ -23,7 +23,7 @@ use Rattle.above_examples.proofs.SquareBasis.{plane_lawful}
 use Rattle.above_examples.proofs.SquareMaps.{square_canonical}
 use Rattle.above_examples.proofs.SquareTable.{no_constants, square_no_unit}
 use Rattle.above_examples.proofs.Terms.{at_key}
-use Rattle.above_examples.specs.Square.{generators, monomial, plane, resolution, weighted_numerator, weighted_table, weights}
+use Rattle.above_examples.specs.Square.{monomial, resolution, square_generators, square_setting, weighted_numerator, weighted_table, weights}
 
 -- a vector each of whose terms has the degree d
 homogeneous :
@@ -40,10 +40,10 @@ homogeneous rows d v r h = record {
     go k nz (inl e) = e
     go k nz (inr z) = absurd (nz (IsCongruent_of 101 _ 0 z))
 
-generators_graded : AreHomogeneous weights 101 (0 ∷ []) (2 ∷ (3 ∷ (4 ∷ []))) generators
+generators_graded : AreHomogeneous weights 101 (0 ∷ []) (2 ∷ (3 ∷ (4 ∷ []))) square_generators
 generators_graded = record { count = refl; each = each }
   where
-    each : (i : ℕ) → i < 3 → IsHomogeneous weights 101 (0 ∷ []) (get_or (2 ∷ (3 ∷ (4 ∷ []))) i 0) (get_or generators i [])
+    each : (i : ℕ) → i < 3 → IsHomogeneous weights 101 (0 ∷ []) (get_or (2 ∷ (3 ∷ (4 ∷ []))) i 0) (get_or square_generators i [])
     each zero h = homogeneous (0 ∷ []) 2 (((0, monomial 2 0), 1) ∷ []) (omega arith, tt) (refl, tt)
     each (suc zero) h = homogeneous (0 ∷ []) 3 (((0, monomial 1 1), 1) ∷ []) (omega arith, tt) (refl, tt)
     each (suc (suc zero)) h = homogeneous (0 ∷ []) 4 (((0, monomial 0 2), 1) ∷ []) (omega arith, tt) (refl, tt)
@@ -54,9 +54,9 @@ weighted_maps = graded_by_leads weights (0 ∷ []) resolution
 
 pub weighted_minimal :
     IsMinimal weights 101 (record { positions = 0 ∷ []; maps = graded_by_leads weights (0 ∷ []) resolution })
-    × Presents weights 101 (record { positions = 0 ∷ []; maps = graded_by_leads weights (0 ∷ []) resolution }) (0 ∷ []) generators
+    × Presents weights 101 (record { positions = 0 ∷ []; maps = graded_by_leads weights (0 ∷ []) resolution }) (0 ∷ []) square_generators
 weighted_minimal =
-    canonical_cancelled plane plane_lawful weights (0 ∷ []) (2 ∷ (3 ∷ (4 ∷ []))) generators refl generators_graded resolution square_canonical
+    canonical_cancelled square_setting plane_lawful weights (0 ∷ []) (2 ∷ (3 ∷ (4 ∷ []))) square_generators refl generators_graded resolution square_canonical
     (record { positions = 0 ∷ []; maps = weighted_maps })
     (no_step 101 (omega arith) (record { positions = 0 ∷ []; maps = weighted_maps }) (no_constants 101 weighted_maps square_no_unit) (omega arith, (omega arith, tt)))
 
@@ -119,9 +119,9 @@ same (suc (suc (suc (suc (suc zero))))) = refl
 same (suc (suc (suc (suc (suc (suc zero)))))) = refl
 same (suc (suc (suc (suc (suc (suc (suc i))))))) = refl
 
-pub weighted_square_numerator : IsNumerator weights 2 weighted_numerator (module_count weights 1 (map head_key generators))
+pub weighted_square_numerator : IsNumerator weights 2 weighted_numerator (module_count weights 1 (map head_key square_generators))
 weighted_square_numerator =
-    IsNumerator_position 2 0 weights (map head_key generators) [] weighted_numerator (λ d. series_nothing weights 2 d)
+    IsNumerator_position 2 0 weights (map head_key square_generators) [] weighted_numerator (λ d. series_nothing weights 2 d)
     (λ d. series_same weights 2 weighted_numerator with_zero same d ∙ of_three d)
 
 pub weighted_dimension : HasDimension 2 weighted_numerator (pos 0) (pos 6)

@@ -7,16 +7,16 @@ use Rattle.orders.specs.MonomialOrders.{grevlex}
 use Rattle.bases.specs.Settings.{Setting}
 
 -- polynomials in x and y modulo 101, by grevlex
-abbrev pub plane : Setting 2
-plane = record { modulus = 101; weights = []; rank = 1; compare = pot grevlex }
+abbrev pub square_setting : Setting 2
+square_setting = record { modulus = 101; weights = []; rank = 1; compare = pot grevlex }
 
 -- x^a y^b
 abbrev pub monomial : ℕ → ℕ → Exponents 2
 monomial a b = cons a (cons b nil)
 
 -- x^2, x y, y^2
-abbrev pub generators : List (FormalSum 2)
-generators = (((0, monomial 2 0), 1) ∷ []) ∷ ((((0, monomial 1 1), 1) ∷ []) ∷ ((((0, monomial 0 2), 1) ∷ []) ∷ []))
+abbrev pub square_generators : List (FormalSum 2)
+square_generators = (((0, monomial 2 0), 1) ∷ []) ∷ ((((0, monomial 1 1), 1) ∷ []) ∷ ((((0, monomial 0 2), 1) ∷ []) ∷ []))
 
 -- [y, 100 x, 0] and [0, y, 100 x]
 abbrev pub relations : List (FormalSum 2)
@@ -24,7 +24,7 @@ relations = (((0, monomial 0 1), 1) ∷ (((1, monomial 1 0), 100) ∷ [])) ∷ (
 
 -- the two maps
 abbrev pub resolution : List (List (FormalSum 2))
-resolution = generators ∷ (relations ∷ [])
+resolution = square_generators ∷ (relations ∷ [])
 
 -- one position of degree 0 at step 0, three of degree 2 at step 1, two of degree 3 at step 2
 abbrev pub table : ℕ → ℕ → ℕ

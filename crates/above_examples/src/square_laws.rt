@@ -10,12 +10,13 @@ ghost use Rattle.minimal_laws.specs.Cancellation.{IsCancelled};
 ghost use Rattle.betti_laws.specs.Tables.{step_count};
 ghost use Rattle.hilbert_laws.specs.Dimensions.{HasDimension};
 ghost use Rattle.hilbert_laws.specs.Numerators.{IsNumerator, module_count};
-ghost use Rattle.above_examples.specs.Square.{generators, monomial, numerator, plane, resolution, table, weighted_numerator, weighted_table, weights};
+ghost use Rattle.above_examples.specs.Square.{monomial, numerator, resolution, square_generators, square_setting};
+ghost use Rattle.above_examples.specs.Square.{table, weighted_numerator, weighted_table, weights};
 
 /// Its canonical resolution has two maps, the second with the columns [y, 100 x, 0] and [0, y, 100 x].
 pub fn square_resolution()
-    ensures itself { IsCanonical plane generators resolution }
-    ensures alone { (maps : List (List (FormalSum 2))) → IsCanonical plane generators maps → maps ≡ resolution }
+    ensures itself { IsCanonical square_setting square_generators resolution }
+    ensures alone { (maps : List (List (FormalSum 2))) → IsCanonical square_setting square_generators maps → maps ≡ resolution }
 {}
 
 /// That list needs no step of cancellation and is minimal; and each minimal list that presents the same module has its
@@ -24,16 +25,16 @@ pub fn square_table()
     ensures cancelled { IsCancelled 101 (record { positions = 0 ∷ []; maps = graded_by_leads [] (0 ∷ []) resolution })
         (record { positions = 0 ∷ []; maps = graded_by_leads [] (0 ∷ []) resolution }) }
     ensures minimal { IsMinimal [] 101 (record { positions = 0 ∷ []; maps = graded_by_leads [] (0 ∷ []) resolution })
-        × Presents [] 101 (record { positions = 0 ∷ []; maps = graded_by_leads [] (0 ∷ []) resolution }) (0 ∷ []) generators }
+        × Presents [] 101 (record { positions = 0 ∷ []; maps = graded_by_leads [] (0 ∷ []) resolution }) (0 ∷ []) square_generators }
     ensures counts { (k d : ℕ) → step_count (0 ∷ []) (graded_by_leads [] (0 ∷ []) resolution) k d ≡ table k d }
     ensures each { (C : GradedMaps 2) (k d : ℕ)
-        → IsMinimal [] 101 C → Presents [] 101 C (0 ∷ []) generators → step_count C.positions C.maps k d ≡ table k d }
+        → IsMinimal [] 101 C → Presents [] 101 C (0 ∷ []) square_generators → step_count C.positions C.maps k d ≡ table k d }
 {}
 
 /// Its numerator is 1 - 3 t^2 + 2 t^3, with dimension 0 and degree 3. That of a line in the plane is 1 - t, with dimension 1
 /// and degree 1.
 pub fn square_numerator()
-    ensures itself { IsNumerator [] 2 numerator (module_count [] 1 (map head_key generators)) }
+    ensures itself { IsNumerator [] 2 numerator (module_count [] 1 (map head_key square_generators)) }
     ensures dimension { HasDimension 2 numerator (pos 0) (pos 3) }
     ensures line { HasDimension 2 (pos 1 ∷ (negsuc 0 ∷ [])) (pos 1) (pos 1) }
 {}
@@ -42,9 +43,9 @@ pub fn square_numerator()
 /// numerator is 1 - t^2 - t^3 + t^5, with dimension 0 and degree 6 (UAG chapter 6, section 4; Singular and Macaulay2 give the same).
 pub fn weighted_square()
     ensures minimal { IsMinimal weights 101 (record { positions = 0 ∷ []; maps = graded_by_leads weights (0 ∷ []) resolution })
-        × Presents weights 101 (record { positions = 0 ∷ []; maps = graded_by_leads weights (0 ∷ []) resolution }) (0 ∷ []) generators }
+        × Presents weights 101 (record { positions = 0 ∷ []; maps = graded_by_leads weights (0 ∷ []) resolution }) (0 ∷ []) square_generators }
     ensures counts { (k d : ℕ) → step_count (0 ∷ []) (graded_by_leads weights (0 ∷ []) resolution) k d ≡ weighted_table k d }
-    ensures numerator { IsNumerator weights 2 weighted_numerator (module_count weights 1 (map head_key generators)) }
+    ensures numerator { IsNumerator weights 2 weighted_numerator (module_count weights 1 (map head_key square_generators)) }
     ensures dimension { HasDimension 2 weighted_numerator (pos 0) (pos 6) }
 {}
 

@@ -12,7 +12,7 @@ use Rattle.bases.proofs.NormalForms.{IsMonicLead_normal}
 use Rattle.bases.specs.Bases.{IsCovered}
 use Rattle.base_examples.proofs.Bases.{basis_normal, lawful, pair_01, pair_12, x_apart}
 use Rattle.base_examples.proofs.Vectors.{membership_sum}
-use Rattle.base_examples.specs.Examples.{at, basis, generators, setting, square_plus, xy, y_squared}
+use Rattle.base_examples.specs.Examples.{at, basis, generators, plane_setting, square_plus, xy, y_squared}
 use Rattle.base_examples.specs.Histories.{after_put, first_state, last_state, member_0, member_1, member_2, more_work, state_1, state_2, state_3, state_4, state_5, state_6, state_7, three_members, two_members, two_workers}
 use Rattle.basis_steps.proofs.Counting.{is_same_pair-true}
 use Rattle.basis_steps.proofs.Updating.{pair_of_new}
@@ -28,41 +28,41 @@ use Rattle.basis_steps.specs.Steps.{Begins, Replays, Step, generator_rows}
 pub run_lawful : IsLawfulRun two_workers
 run_lawful = record { setting = lawful; some = omega arith }
 
-pub monic_0 : IsMonicMember setting square_plus
-monic_0 = record { monic = IsMonicLead_normal setting lawful square_plus (basis_normal 0 (omega arith)) refl; ranked = (omega arith, (omega arith, tt)) }
+pub monic_0 : IsMonicMember plane_setting square_plus
+monic_0 = record { monic = IsMonicLead_normal plane_setting lawful square_plus (basis_normal 0 (omega arith)) refl; ranked = (omega arith, (omega arith, tt)) }
 
-pub monic_1 : IsMonicMember setting xy
-monic_1 = record { monic = IsMonicLead_normal setting lawful xy (basis_normal 1 (omega arith)) refl; ranked = (omega arith, tt) }
+pub monic_1 : IsMonicMember plane_setting xy
+monic_1 = record { monic = IsMonicLead_normal plane_setting lawful xy (basis_normal 1 (omega arith)) refl; ranked = (omega arith, tt) }
 
-pub monic_2 : IsMonicMember setting y_squared
-monic_2 = record { monic = IsMonicLead_normal setting lawful y_squared (basis_normal 2 (omega arith)) refl; ranked = (omega arith, tt) }
+pub monic_2 : IsMonicMember plane_setting y_squared
+monic_2 = record { monic = IsMonicLead_normal plane_setting lawful y_squared (basis_normal 2 (omega arith)) refl; ranked = (omega arith, tt) }
 
 -- ---- the members: no row is divided
-pub free_0 : IsCovered setting [] (at 0 2 0) → ⊥
+pub free_0 : IsCovered plane_setting [] (at 0 2 0) → ⊥
 free_0 (i, h, lead, d) = absurd (omega arith)
 
-pub free_1 : IsCovered setting (square_plus ∷ []) (at 0 1 1) → ⊥
+pub free_1 : IsCovered plane_setting (square_plus ∷ []) (at 0 1 1) → ⊥
 free_1 (zero, h, lead, d) = x_apart 2 0 1 1 (omega arith) d
 free_1 (suc i, h, lead, d) = absurd (omega arith)
 
-free_2 : IsCovered setting generators (at 0 0 2) → ⊥
+free_2 : IsCovered plane_setting generators (at 0 0 2) → ⊥
 free_2 (zero, h, lead, d) = x_apart 2 0 0 2 (omega arith) d
 free_2 (suc zero, h, lead, d) = x_apart 1 1 0 2 (omega arith) d
 free_2 (suc (suc i), h, lead, d) = absurd (omega arith)
 
-pub leaves_0 : LeavesMember setting [] member_0 [] 1 1 member_0
+pub leaves_0 : LeavesMember plane_setting [] member_0 [] 1 1 member_0
 leaves_0 = record { quotients = tt; reached = tt; at_most = inr refl; inverse = record { same = refl }; vector = IsSame_of 101 _ _ refl; multiple = IsSame_of 101 _ _ refl; products = IsSame_of 101 _ _ refl; member = monic_0; free = free_0 }
 
-pub leaves_1 : LeavesMember setting (vectors (member_0 ∷ [])) member_1 [] 1 1 member_1
+pub leaves_1 : LeavesMember plane_setting (vectors (member_0 ∷ [])) member_1 [] 1 1 member_1
 leaves_1 = record { quotients = tt; reached = tt; at_most = inr refl; inverse = record { same = refl }; vector = IsSame_of 101 _ _ refl; multiple = IsSame_of 101 _ _ refl; products = IsSame_of 101 _ _ refl; member = monic_1; free = free_1 }
 
-leaves_2 : LeavesMember setting (vectors two_members) member_2 [] 1 1 member_2
+leaves_2 : LeavesMember plane_setting (vectors two_members) member_2 [] 1 1 member_2
 leaves_2 = record { quotients = tt; reached = tt; at_most = inr refl; inverse = record { same = refl }; vector = IsSame_of 101 _ _ refl; multiple = IsSame_of 101 _ _ refl; products = IsSame_of 101 _ _ refl; member = monic_2; free = free_2 }
 
-makes_two : MakesMembers setting [] (generator_rows 0 generators) two_members
+makes_two : MakesMembers plane_setting [] (generator_rows 0 generators) two_members
 makes_two = inr ([], 1, 1, member_0, member_1 ∷ [], leaves_0, refl, inr ([], 1, 1, member_1, [], leaves_1, refl, refl))
 
-makes_third : MakesMembers setting (vectors two_members) (member_2 ∷ []) (member_2 ∷ [])
+makes_third : MakesMembers plane_setting (vectors two_members) (member_2 ∷ []) (member_2 ∷ [])
 makes_third = inr ([], 1, 1, member_2, [], leaves_2, refl, refl)
 
 -- ---- the queues
@@ -132,13 +132,13 @@ queued_none (suc (suc i)) (suc (suc zero)) lt h = absurd (omega arith)
 queued_none i (suc (suc (suc j))) lt h = absurd (omega arith)
 
 -- ---- the criteria: to (0, 1) and (1, 2) none applies
-not_01 : (waits : Pair → ℕ) → CriterionApplies setting generators waits (0, 1) → ⊥
+not_01 : (waits : Pair → ℕ) → CriterionApplies plane_setting generators waits (0, 1) → ⊥
 not_01 waits (inl (one, e)) = let q : ◌≡◌ {A = ℕ} 3 2 = ap head e in absurd (omega arith)
 not_01 waits (inr (zero, c)) = c.left refl
 not_01 waits (inr (suc zero, c)) = c.right refl
 not_01 waits (inr (suc (suc k), c)) = let w = c.within in absurd (omega arith)
 
-pub basis_12 : (waits : Pair → ℕ) → CriterionApplies setting basis waits (1, 2) → ⊥
+pub basis_12 : (waits : Pair → ℕ) → CriterionApplies plane_setting basis waits (1, 2) → ⊥
 basis_12 waits (inl (one, e)) = let q : ◌≡◌ {A = ℕ} 3 2 = ap (λ m. head (tail m)) e in absurd (omega arith)
 basis_12 waits (inr (zero, c)) = x_apart 2 0 1 2 (omega arith) c.divides
 basis_12 waits (inr (suc zero, c)) = c.left refl
@@ -163,13 +163,13 @@ occurs_at v k e z = IsCongruent_nonzero 101 1 (omega arith) (omega arith) (IsCon
 abbrev products : List (Product 2)
 products = (0, cons 0 (cons 1 nil)) ∷ ((1, cons 1 (cons 0 nil)) ∷ [])
 
-low : HasLeadBelowJob setting generators ((0, 1) ∷ []) y_squared
-low k h = ((0, 1), omega arith, ap (λ l. setting.compare l (at 0 2 1)) (lead_unique setting lawful y_squared k (at 0 0 2) h (IsLead_of_monic setting lawful monic_2.monic)))
+low : HasLeadBelowJob plane_setting generators ((0, 1) ∷ []) y_squared
+low k h = ((0, 1), omega arith, ap (λ l. plane_setting.compare l (at 0 2 1)) (lead_unique plane_setting lawful y_squared k (at 0 0 2) h (IsLead_of_monic plane_setting lawful monic_2.monic)))
 
 job_products : AreJobProducts 101 generators ((0, 1) ∷ []) products
 job_products = ((omega arith, (omega arith, tt)), (inl ((0, 1), omega arith, refl), (inl ((0, 1), omega arith, refl), tt)))
 
-outcome_01 : IsOutcome setting (vectors two_members) ((0, 1) ∷ []) (member_2 ∷ []) products
+outcome_01 : IsOutcome plane_setting (vectors two_members) ((0, 1) ∷ []) (member_2 ∷ []) products
 outcome_01 = record {
   some = omega arith;
   pairs = (record { ordered = omega arith; within = omega arith; position = refl }, tt);
@@ -180,7 +180,7 @@ outcome_01 = record {
   job_products = job_products;
 }
 
-outcome_12 : IsOutcome setting (vectors three_members) ((1, 2) ∷ []) [] []
+outcome_12 : IsOutcome plane_setting (vectors three_members) ((1, 2) ∷ []) [] []
 outcome_12 = record {
   some = omega arith;
   pairs = (record { ordered = omega arith; within = omega arith; position = refl }, tt);

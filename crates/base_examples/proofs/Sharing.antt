@@ -8,7 +8,7 @@ use Rattle.bases.specs.Bases.{IsCovered}
 use Rattle.bases.specs.Representations.{HasLcmRepresentation}
 use Rattle.base_examples.proofs.Bases.{lawful, x_apart, y_apart}
 use Rattle.base_examples.proofs.Histories.{monic_1, monic_2, queued_of}
-use Rattle.base_examples.specs.Examples.{at, setting, xy}
+use Rattle.base_examples.specs.Examples.{at, plane_setting, xy}
 use Rattle.base_examples.specs.Histories.{member_1}
 use Rattle.base_examples.specs.Sharing.{all, monomial_members, none, sharing, sharing_state, x_member, x_squared, y_member}
 use Rattle.basis_steps.specs.Criteria.{CriterionApplies}
@@ -19,34 +19,34 @@ use Rattle.basis_steps.specs.Queues.{is_new_pair}
 use Rattle.basis_steps.specs.States.{End, Ended, Put, Take, vectors}
 use Rattle.basis_steps.specs.Steps.{Begins, Replays, Step, generator_rows}
 
-monic_x : IsMonicMember setting x_squared
+monic_x : IsMonicMember plane_setting x_squared
 monic_x = record {
-  monic = IsMonicLead_normal setting lawful x_squared (record { descends = (tt, tt); residues = ((omega arith, omega arith), tt) }) refl;
+  monic = IsMonicLead_normal plane_setting lawful x_squared (record { descends = (tt, tt); residues = ((omega arith, omega arith), tt) }) refl;
   ranked = (omega arith, tt);
 }
 
-free_x : IsCovered setting [] (at 0 2 0) → ⊥
+free_x : IsCovered plane_setting [] (at 0 2 0) → ⊥
 free_x (i, h, lead, d) = absurd (omega arith)
 
-free_xy : IsCovered setting (x_squared ∷ []) (at 0 1 1) → ⊥
+free_xy : IsCovered plane_setting (x_squared ∷ []) (at 0 1 1) → ⊥
 free_xy (zero, h, lead, d) = x_apart 2 0 1 1 (omega arith) d
 free_xy (suc i, h, lead, d) = absurd (omega arith)
 
-free_y : IsCovered setting (x_squared ∷ (xy ∷ [])) (at 0 0 2) → ⊥
+free_y : IsCovered plane_setting (x_squared ∷ (xy ∷ [])) (at 0 0 2) → ⊥
 free_y (zero, h, lead, d) = x_apart 2 0 0 2 (omega arith) d
 free_y (suc zero, h, lead, d) = x_apart 1 1 0 2 (omega arith) d
 free_y (suc (suc i), h, lead, d) = absurd (omega arith)
 
-leaves_x : LeavesMember setting [] x_member [] 1 1 x_member
+leaves_x : LeavesMember plane_setting [] x_member [] 1 1 x_member
 leaves_x = record { quotients = tt; reached = tt; at_most = inr refl; inverse = record { same = refl }; vector = IsSame_of 101 _ _ refl; multiple = IsSame_of 101 _ _ refl; products = IsSame_of 101 _ _ refl; member = monic_x; free = free_x }
 
-leaves_xy : LeavesMember setting (vectors (x_member ∷ [])) member_1 [] 1 1 member_1
+leaves_xy : LeavesMember plane_setting (vectors (x_member ∷ [])) member_1 [] 1 1 member_1
 leaves_xy = record { quotients = tt; reached = tt; at_most = inr refl; inverse = record { same = refl }; vector = IsSame_of 101 _ _ refl; multiple = IsSame_of 101 _ _ refl; products = IsSame_of 101 _ _ refl; member = monic_1; free = free_xy }
 
-leaves_y : LeavesMember setting (vectors (x_member ∷ (member_1 ∷ []))) y_member [] 1 1 y_member
+leaves_y : LeavesMember plane_setting (vectors (x_member ∷ (member_1 ∷ []))) y_member [] 1 1 y_member
 leaves_y = record { quotients = tt; reached = tt; at_most = inr refl; inverse = record { same = refl }; vector = IsSame_of 101 _ _ refl; multiple = IsSame_of 101 _ _ refl; products = IsSame_of 101 _ _ refl; member = monic_2; free = free_y }
 
-makes_all : MakesMembers setting [] (generator_rows 0 sharing.generators) monomial_members
+makes_all : MakesMembers plane_setting [] (generator_rows 0 sharing.generators) monomial_members
 makes_all = inr ([], 1, 1, x_member, member_1 ∷ (y_member ∷ []), leaves_x, refl, inr ([], 1, 1, member_1, y_member ∷ [], leaves_xy, refl, inr ([], 1, 1, y_member, [], leaves_y, refl, refl)))
 
 first_queue : (i j : ℕ) → i < j → j < 3 → count (i, j) ((1, 2) ∷ ((0, 1) ∷ ((0, 2) ∷ []))) ≡ count (i, j) [] + cond (is_new_pair 0 (vectors monomial_members) (i, j)) 1 0
@@ -67,30 +67,30 @@ no_queue (suc zero) (suc (suc zero)) lt h = refl
 no_queue (suc (suc i)) (suc (suc zero)) lt h = absurd (omega arith)
 no_queue i (suc (suc (suc j))) lt h = absurd (omega arith)
 
-not_01 : (waits : Pair → ℕ) → CriterionApplies setting (vectors monomial_members) waits (0, 1) → ⊥
+not_01 : (waits : Pair → ℕ) → CriterionApplies plane_setting (vectors monomial_members) waits (0, 1) → ⊥
 not_01 waits (inl (one, e)) = let q : ◌≡◌ {A = ℕ} 3 2 = ap head e in absurd (omega arith)
 not_01 waits (inr (zero, c)) = c.left refl
 not_01 waits (inr (suc zero, c)) = c.right refl
 not_01 waits (inr (suc (suc zero), c)) = y_apart 0 2 2 1 (omega arith) c.divides
 not_01 waits (inr (suc (suc (suc k)), c)) = let w = c.within in absurd (omega arith)
 
-not_12 : (waits : Pair → ℕ) → CriterionApplies setting (vectors monomial_members) waits (1, 2) → ⊥
+not_12 : (waits : Pair → ℕ) → CriterionApplies plane_setting (vectors monomial_members) waits (1, 2) → ⊥
 not_12 waits (inl (one, e)) = let q : ◌≡◌ {A = ℕ} 3 2 = ap (λ m. head (tail m)) e in absurd (omega arith)
 not_12 waits (inr (zero, c)) = x_apart 2 0 1 2 (omega arith) c.divides
 not_12 waits (inr (suc zero, c)) = c.left refl
 not_12 waits (inr (suc (suc zero), c)) = c.right refl
 not_12 waits (inr (suc (suc (suc k)), c)) = let w = c.within in absurd (omega arith)
 
-represents_01 : HasLcmRepresentation setting (vectors monomial_members) 0 1
+represents_01 : HasLcmRepresentation plane_setting (vectors monomial_members) 0 1
 represents_01 = record { cofactors = []; below = tt; sums = IsSame_compared _ _ (record { same = refl }, (record { same = refl }, tt)) }
 
-represents_12 : HasLcmRepresentation setting (vectors monomial_members) 1 2
+represents_12 : HasLcmRepresentation plane_setting (vectors monomial_members) 1 2
 represents_12 = record { cofactors = []; below = tt; sums = IsSame_compared _ _ (record { same = refl }, (record { same = refl }, tt)) }
 
-outcome_01 : IsOutcome setting (vectors monomial_members) ((0, 1) ∷ []) [] []
+outcome_01 : IsOutcome plane_setting (vectors monomial_members) ((0, 1) ∷ []) [] []
 outcome_01 = record { some = omega arith; pairs = (record { ordered = omega arith; within = omega arith; position = refl }, tt); represented = (represents_01, tt); few = omega arith; low = tt; sums = tt; job_products = (tt, tt) }
 
-outcome_12 : IsOutcome setting (vectors monomial_members) ((1, 2) ∷ []) [] []
+outcome_12 : IsOutcome plane_setting (vectors monomial_members) ((1, 2) ∷ []) [] []
 outcome_12 = record { some = omega arith; pairs = (record { ordered = omega arith; within = omega arith; position = refl }, tt); represented = (represents_12, tt); few = omega arith; low = tt; sums = tt; job_products = (tt, tt) }
 
 begins : Begins sharing (sharing_state 0 ((1, 2) ∷ ((0, 1) ∷ ((0, 2) ∷ []))) [] 0 none)

@@ -2,7 +2,7 @@
 use Rattle.std.proofs.Common.{Bool, List, false, subst, true, [], arith, inl, inr, refl, suc, sym, zero, ℕ, ◌+◌, ◌<◌, ◌∷◌, ◌≡◌, ◌≤◌, ◌⊎◌, ap, cond}
 use Rattle.monomials.specs.Exponents.{Exponents, cons, head, nil, tail, times}
 use Rattle.formal_sums.specs.FormalSums.{FormalSum, Key}
-use Rattle.base_examples.specs.Examples.{at, setting}
+use Rattle.base_examples.specs.Examples.{at, plane_setting}
 use Rattle.base_examples.specs.Sharing.{monomial_members}
 use Rattle.basis_steps.proofs.Counting.{is_same_pair-true}
 use Rattle.basis_steps.specs.Criteria.{IsPair, ProductApplies}
@@ -55,14 +55,14 @@ one_group zero g = absurd (let z : ◌≡◌ {A = ℕ} 2 1 = ap (λ (k : Key 2).
 one_group (suc zero) g = refl
 one_group (suc (suc l)) g = absurd (let o = g.pair.ordered in omega (arith, o))
 
-queued : IsFirstLive setting G 2 1 1
+queued : IsFirstLive plane_setting G 2 1 1
 queued = record {
   member = record { pair = record { ordered = omega arith; within = omega arith; position = refl }; same = refl };
   live = λ l g a. live l (one_group l g) g a;
   first = λ l lt g. let e = one_group l g in omega (arith, e, lt);
 }
   where
-    live : (l : ℕ) → l ≡ 1 → IsOfGroup G 2 1 l → ProductApplies setting G (l, 2) → ⊥
+    live : (l : ℕ) → l ≡ 1 → IsOfGroup G 2 1 l → ProductApplies plane_setting G (l, 2) → ⊥
     live zero e g a = omega (arith, e)
     live (suc zero) e g a = let z : ◌≡◌ {A = ℕ} 3 2 = ap (λ (v : Exponents 2). head (tail v)) a.1 in omega (arith, z)
     live (suc (suc l)) e g a = omega (arith, e)
@@ -75,7 +75,7 @@ only x h = go (is_same_pair x (0, 1)) refl h
     go true e q = is_same_pair-true x (0, 1) e
     go false e q = absurd (omega (arith, q))
 
-pub third_member : UpdatesWith setting G 2 old [] new drops
+pub third_member : UpdatesWith plane_setting G 2 old [] new drops
 third_member = record {
   added = drops;
   appended = refl;
@@ -100,7 +100,7 @@ third_member = record {
     earlier : (x : Pair) → x ≡ (0, 1) → BecomesOld G 2 drops (count x old) (count x new) x
     earlier x e = subst (λ y. BecomesOld G 2 drops (count y old) (count y new) y) (sym e) (inr (stays, refl))
 
-    new_pair : (i : ℕ) → IsPair G (i, 2) → BecomesNew setting G 2 drops (count (i, 2) new) i
+    new_pair : (i : ℕ) → IsPair G (i, 2) → BecomesNew plane_setting G 2 drops (count (i, 2) new) i
     new_pair zero p = inl (1, inl first_yield, (0, omega arith, refl), refl)
     new_pair (suc zero) p = inr (remains, inr (queued, refl))
     new_pair (suc (suc i)) p = absurd (let l = p.ordered in omega (arith, l))

@@ -1,7 +1,7 @@
 -- Two jobs out at once on (x^2 + y, xy, y^3 + x): the later one comes back first
 use Rattle.std.specs.Prelude.{List, [], None, Some, false, take, true, ◌++◌, ◌∷◌}
 use Rattle.formal_sums.specs.FormalSums.{FormalSum}
-use Rattle.base_examples.specs.Examples.{at, membership_cofactors, setting, square_plus, xy, y_squared}
+use Rattle.base_examples.specs.Examples.{at, membership_cofactors, plane_setting, square_plus, xy, y_squared}
 use Rattle.base_examples.specs.Histories.{events, member_0, member_1, three_members}
 use Rattle.queue_updates.specs.declared.Update.TheVariants.{Plain}
 use Rattle.basis_steps.specs.States.{Event, Member, Pairs, Put, Run, State, Take}
@@ -16,7 +16,7 @@ only_y = (at 0 0 1, 1) ∷ []
 
 -- two workers, at most ten pairs
 abbrev pub crossing : Run 2
-crossing = record { setting = setting; generators = square_plus ∷ (xy ∷ (cubic ∷ [])); budget = 10; workers = 2; degree_limit = 65535; update = Plain }
+crossing = record { setting = plane_setting; generators = square_plus ∷ (xy ∷ (cubic ∷ [])); budget = 10; workers = 2; degree_limit = 65535; update = Plain }
 
 -- y^3 + x, the third generator
 abbrev pub cubic_member : Member 2
@@ -114,7 +114,7 @@ crossing_last = record {
 
 -- the run on (x^2 + y, xy) with a budget of one pair
 abbrev pub one_pair : Run 2
-one_pair = record { setting = setting; generators = square_plus ∷ (xy ∷ []); budget = 1; workers = 2; degree_limit = 65535; update = Plain }
+one_pair = record { setting = plane_setting; generators = square_plus ∷ (xy ∷ []); budget = 1; workers = 2; degree_limit = 65535; update = Plain }
 
 -- the budget is met while the pair (1, 2) is queued
 abbrev pub budget_met : State 2

@@ -1,12 +1,12 @@
 -- A whole run of two workers on the ideal (x^2 + y, xy), event by event
 use Rattle.std.specs.Prelude.{List, [], None, false, take, true, ◌∷◌, ◌++◌}
-use Rattle.base_examples.specs.Examples.{at, generators, membership_cofactors, setting, square_plus, xy, y_squared}
+use Rattle.base_examples.specs.Examples.{at, generators, membership_cofactors, plane_setting, square_plus, xy, y_squared}
 use Rattle.queue_updates.specs.declared.Update.TheVariants.{Plain}
 use Rattle.basis_steps.specs.States.{End, Ended, Event, Member, MoreWork, Put, Run, State, Take}
 
 -- two workers, at most ten pairs, degrees up to 65535
 abbrev pub two_workers : Run 2
-two_workers = record { setting = setting; generators = generators; budget = 10; workers = 2; degree_limit = 65535; update = Plain }
+two_workers = record { setting = plane_setting; generators = generators; budget = 10; workers = 2; degree_limit = 65535; update = Plain }
 
 -- x^2 + y, the first generator
 abbrev pub member_0 : Member 2

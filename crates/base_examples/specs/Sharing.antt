@@ -1,7 +1,7 @@
 -- Three workers on (x^2, xy, y^2), where two pairs have one degree
 use Rattle.std.specs.Prelude.{Bool, List, [], None, false, take, true, ℕ, ◌∷◌}
 use Rattle.formal_sums.specs.FormalSums.{FormalSum}
-use Rattle.base_examples.specs.Examples.{at, setting, xy, y_squared}
+use Rattle.base_examples.specs.Examples.{at, plane_setting, xy, y_squared}
 use Rattle.base_examples.specs.Histories.{member_1}
 use Rattle.queue_updates.specs.declared.Update.TheVariants.{Plain}
 use Rattle.basis_steps.specs.States.{End, Ended, Event, Member, Put, Run, State, Take}
@@ -12,7 +12,7 @@ x_squared = (at 0 2 0, 1) ∷ []
 
 -- three workers, at most ten pairs
 abbrev pub sharing : Run 2
-sharing = record { setting = setting; generators = x_squared ∷ (xy ∷ (y_squared ∷ [])); budget = 10; workers = 3; degree_limit = 65535; update = Plain }
+sharing = record { setting = plane_setting; generators = x_squared ∷ (xy ∷ (y_squared ∷ [])); budget = 10; workers = 3; degree_limit = 65535; update = Plain }
 
 -- x^2, the first generator
 abbrev pub x_member : Member 2

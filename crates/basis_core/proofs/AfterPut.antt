@@ -35,8 +35,9 @@ use Rattle.pair_queue.specs.Shown.{PairsShown}
 use Rattle.basis_core.specs.Jobs.{pairs_of}
 use Rattle.basis_core.specs.Leads.{leads_shown_of}
 use Rattle.basis_core.specs.Makings.{TrailEndsAs, HaveMadeRows, StopsAt, StopsOne, StopsRow, StopsWork}
-use Rattle.basis_core.specs.Members.{IsRunRow, IsMemberShown, MembersShown, Shared, MemberShown, member_of, members_of, row_of, rows_of, setting_of}
-use Rattle.basis_core.specs.Outcomes.{OutcomeShown, IsOutcomeOver, product_of, products_of}
+use Rattle.basis_core.specs.Members.{IsRunRow, IsMemberShown, MembersShown, Shared, MemberShown}
+use Rattle.basis_core.specs.Members.{member_of, members_of, reduct_row_of, reduct_rows_of, setting_of}
+use Rattle.basis_core.specs.Outcomes.{OutcomeShown, IsOutcomeOver, indexed_product_of, indexed_products_of}
 use Rattle.basis_core.specs.Shown.{Shown}
 use Rattle.basis_core.specs.Views.{history_of, run_of, state_of, variables_of}
 use Rattle.basis_core.proofs.Growing.{history_more, put_made, read_more, stays}
@@ -82,7 +83,7 @@ pub record HasPut (n : ℕ) (s : Shown) (o : OutcomeShown) (after : List MemberS
   pub known : o.job.worker < s.workers
   pub works : get_or s.ended o.job.worker true ≡ false
   pub job : IsJobOut s o
-  pub outcome : IsOutcome (setting_of n s.shared) (vectors (members_of n o.job.members)) (pairs_of o.job.pairs) (rows_of n o.rows) (products_of n o.products)
+  pub outcome : IsOutcome (setting_of n s.shared) (vectors (members_of n o.job.members)) (pairs_of o.job.pairs) (reduct_rows_of n o.rows) (indexed_products_of n o.products)
   pub made : HaveMadeRows n s.shared s.members o.rows after
   pub first : ℕ
   pub first_is : first ≡ length s.members
@@ -95,10 +96,10 @@ pub record HasPut (n : ℕ) (s : Shown) (o : OutcomeShown) (after : List MemberS
 pub outcome_of :
     (s : Shown) (o : OutcomeShown) → o.job.shared ≡ s.shared → IsOutcomeOver o
     → IsOutcome (setting_of (variables_of s) s.shared) (vectors (members_of (variables_of s) o.job.members)) (pairs_of o.job.pairs)
-    (rows_of (variables_of s) o.rows) (products_of (variables_of s) o.products)
+    (reduct_rows_of (variables_of s) o.rows) (indexed_products_of (variables_of s) o.products)
 outcome_of s o e h =
     subst (λ (sh : Shared). IsOutcome (setting_of (variables sh.ring) sh) (vectors (members_of (variables sh.ring) o.job.members))
-    (pairs_of o.job.pairs) (rows_of (variables sh.ring) o.rows) (products_of (variables sh.ring) o.products)) e h.outcome
+    (pairs_of o.job.pairs) (reduct_rows_of (variables sh.ring) o.rows) (indexed_products_of (variables sh.ring) o.products)) e h.outcome
 
 -- the vectors of the job's members are the first ones
 pub base_vectors : (n : ℕ) (ms base : List MemberShown) → base ≡ take (length base) ms
@@ -114,15 +115,15 @@ module _ (n : ℕ) (s : Shown) (o : OutcomeShown) (after : List MemberShown) (qu
   made_count = omega (arith, ap length (h.made).same, length-append s.members (h.made).made, h.first_is)
 
   pub put_step :
-      Puts (run_of n s) (state_of n s) o.job.worker (length o.job.members) (rows_of n o.rows) (products_of n o.products)
+      Puts (run_of n s) (state_of n s) o.job.worker (length o.job.members) (reduct_rows_of n o.rows) (indexed_products_of n o.products)
       (members_of n (h.made).made) (state_of n (after_put s after queue dropped out es))
   put_step = record {
     may = record {
       known = h.known;
       works = h.works;
       had = omega (arith, (h.job).had, length-map s.members (λ m. member_of n m));
-      outcome = subst (λ (z : List (FormalSum n) × List Pair). IsOutcome (setting_of n s.shared) z.0 z.1 (rows_of n o.rows)
-          (products_of n o.products)) (λ i. (base_vectors n s.members o.job.members (h.job).members i, sym (h.job).out i)) h.outcome;
+      outcome = subst (λ (z : List (FormalSum n) × List Pair). IsOutcome (setting_of n s.shared) z.0 z.1 (reduct_rows_of n o.rows)
+          (indexed_products_of n o.products)) (λ i. (base_vectors n s.members o.job.members (h.job).members i, sym (h.job).out i)) h.outcome;
     };
     makes = (h.made).makes;
     queue = queue;
@@ -163,7 +164,7 @@ pub put_kept :
 put_kept i o members pairs history kept same h leads update room =
     let n : ℕ = variables_of (shown i) in
     let t : Shown = record (after_put (shown i) members.list (pairs_of pairs.queue) pairs.dropped pairs.out history.items) { update = pairs.update } in
-    let step : Puts (run_of n (shown i)) (state_of n (shown i)) o.job.worker (length o.job.members) (rows_of n o.rows) (products_of n o.products)
+    let step : Puts (run_of n (shown i)) (state_of n (shown i)) o.job.worker (length o.job.members) (reduct_rows_of n o.rows) (indexed_products_of n o.products)
     (members_of n (h.made).made) (state_of n t) =
     put_step n (shown i) o members.list (pairs_of pairs.queue) pairs.dropped pairs.out history.items h in
     subst (λ (m : MembersShown). IsCoherentState (record i { members = m; pairs = pairs; history = history }))
@@ -172,7 +173,7 @@ put_kept i o members pairs history kept same h leads update room =
       some = kept.some;
       replays = replays_after (shown i) t (plain.Put o.job.worker (members_of n (h.made).made))
           (record { shared = refl; budget = refl; workers = refl; update = update }) kept.replays
-          (length o.job.members, rows_of n o.rows, products_of n o.products, step);
+          (length o.job.members, reduct_rows_of n o.rows, indexed_products_of n o.products, step);
       leads = leads;
       stop = kept.stop;
       read = put_read n (shown i) o members.list (pairs_of pairs.queue) pairs.dropped pairs.out history.items h;
@@ -180,8 +181,8 @@ put_kept i o members pairs history kept same h leads update room =
           let long : length history.items ≡ length i.history.items + 1 = ap length h.events
           ∙ length-append i.history.items (Put o.job.worker h.first (length members.list - h.first) ∷ []) in
           let left : all_left (state_of n t) i.workers ≡ all_left (state_of n (shown i)) i.workers =
-          room_after_put (run_of n (shown i)) (state_of n (shown i)) (state_of n t) o.job.worker (length o.job.members) (rows_of n o.rows)
-          (products_of n o.products) (members_of n (h.made).made) step in
+          room_after_put (run_of n (shown i)) (state_of n (shown i)) (state_of n t) o.job.worker (length o.job.members) (reduct_rows_of n o.rows)
+          (indexed_products_of n o.products) (members_of n (h.made).made) step in
           omega (arith, long, left, room_bound (state_of n (shown i)) i.workers, room);
     })
 
@@ -214,15 +215,15 @@ one_stops n shared ms rows after row_stops.Memory h = tt
 one_stops n shared ms rows after (row_stops.Degree t) h = (h.row, subst (λ l. Contains l h.row) (sym h.split) (stands h.before h.later h.row), h.stops)
 
 -- the row behind the first ones
-row_behind : (n : ℕ) (before later : List CodeReduct) (row : CodeReduct) → row_at (rows_of n (before ++ row ∷ later)) (length before) ≡ row_of n row
+row_behind : (n : ℕ) (before later : List CodeReduct) (row : CodeReduct) → row_at (reduct_rows_of n (before ++ row ∷ later)) (length before) ≡ reduct_row_of n row
 row_behind n [] later row = refl
 row_behind n (b ∷ before) later row = row_behind n before later row
 
-front_rows : (n : ℕ) (before later : List CodeReduct) (row : CodeReduct) → take (length before) (rows_of n (before ++ row ∷ later)) ≡ rows_of n before
+front_rows : (n : ℕ) (before later : List CodeReduct) (row : CodeReduct) → take (length before) (reduct_rows_of n (before ++ row ∷ later)) ≡ reduct_rows_of n before
 front_rows n before later row =
     ap (take (length before)) (rows-append n before (row ∷ later))
-    ∙ ap (λ k. take k (rows_of n before ++ rows_of n (row ∷ later))) (sym (length-map before (λ r. row_of n r)))
-    ∙ take_front (rows_of n before) (rows_of n (row ∷ later))
+    ∙ ap (λ k. take k (reduct_rows_of n before ++ reduct_rows_of n (row ∷ later))) (sym (length-map before (λ r. reduct_row_of n r)))
+    ∙ take_front (reduct_rows_of n before) (reduct_rows_of n (row ∷ later))
 
 all_of : {X : Type 0} (xs : List X) → take (length xs) xs ≡ xs
 all_of xs = ap (take (length xs)) (sym (append-nil xs)) ∙ take_front xs []
@@ -236,11 +237,11 @@ last_of (s ∷ ss) = last_product s ss
 module _ (s : Shown) (o : OutcomeShown) (after : List MemberShown) (row : RowTrail) (t : KeptTrail)
     (replays : Replays (run_of (variables_of s) s) (state_of (variables_of s) s)) (job : IsJobOut s o)
     (outcome : IsOutcome (setting_of (variables_of s) s.shared) (vectors (members_of (variables_of s) o.job.members)) (pairs_of o.job.pairs)
-    (rows_of (variables_of s) o.rows) (products_of (variables_of s) o.products))
+    (reduct_rows_of (variables_of s) o.rows) (indexed_products_of (variables_of s) o.products))
     (r : StopsRow (variables_of s) s.shared s.members o.rows after (row_stops.Degree row))
     (reached : AreReached s.shared.ring.modulus.value (vectors (members_of (variables_of s) after)) (sum_of (variables_of s) (r.row).vector) []
     (terms_of (variables_of s) (earlier_products (r.stops).first (r.stops).later) ++
-    ((product_of (variables_of s) (last_product (r.stops).first (r.stops).later), 1) ∷ []))) (h : IsTrailBy s.shared after (pairs_of o.job.pairs) t)
+    ((indexed_product_of (variables_of s) (last_product (r.stops).first (r.stops).later), 1) ∷ []))) (h : IsTrailBy s.shared after (pairs_of o.job.pairs) t)
     (ends : TrailEndsAs (variables_of s) row.products.items t) where
   abbrev n : ℕ
   n = variables_of s
@@ -260,20 +261,20 @@ module _ (s : Shown) (o : OutcomeShown) (after : List MemberShown) (row : RowTra
   members : (trail_of n t).members ≡ G ++ vectors made
   members = h.members ∙ all_vectors
 
-  front : take number (rows_of n o.rows) ≡ rows_of n r.before
-  front = ap (λ l. take number (rows_of n l)) r.split ∙ front_rows n r.before r.later r.row
+  front : take number (reduct_rows_of n o.rows) ≡ reduct_rows_of n r.before
+  front = ap (λ l. take number (reduct_rows_of n l)) r.split ∙ front_rows n r.before r.later r.row
 
-  makes : MakesMembers (setting_of n s.shared) G (take number (rows_of n o.rows)) made
+  makes : MakesMembers (setting_of n s.shared) G (take number (reduct_rows_of n o.rows)) made
   makes = subst (λ l. MakesMembers (setting_of n s.shared) G l made) (sym front) (r.made).makes
 
-  failed : row_at (rows_of n o.rows) number ≡ row_of n r.row
-  failed = ap (λ l. row_at (rows_of n l) number) r.split ∙ row_behind n r.before r.later r.row
+  failed : row_at (reduct_rows_of n o.rows) number ≡ reduct_row_of n r.row
+  failed = ap (λ l. row_at (reduct_rows_of n l) number) r.split ∙ row_behind n r.before r.later r.row
 
-  same_last : product_of n (last_product (r.stops).first (r.stops).later) ≡ (trail_of n t).last
+  same_last : indexed_product_of n (last_product (r.stops).first (r.stops).later) ≡ (trail_of n t).last
   same_last = same_end (ends).first (ends).later (r.stops).first (r.stops).later (sym (ends).products_are ∙ (r.stops).products) ∙ sym (ends).last
     where
-      same_end : (x : KeptProduct) (xs : List KeptProduct) (y : KeptProduct) (ys : List KeptProduct) → x ∷ xs ≡ y ∷ ys → product_of n (last_product y ys) ≡ product_of n (last_product x xs)
-      same_end x xs y ys e = ap (λ l. product_of n (last_of l)) (sym e)
+      same_end : (x : KeptProduct) (xs : List KeptProduct) (y : KeptProduct) (ys : List KeptProduct) → x ∷ xs ≡ y ∷ ys → indexed_product_of n (last_product y ys) ≡ indexed_product_of n (last_product x xs)
+      same_end x xs y ys e = ap (λ l. indexed_product_of n (last_of l)) (sym e)
 
   given : HasGiven (state_of n s).history (pairs_of o.job.pairs)
   given = subst (HasGiven (state_of n s).history) job.out
@@ -290,17 +291,17 @@ module _ (s : Shown) (o : OutcomeShown) (after : List MemberShown) (row : RowTra
           start = h.start;
           place = inr (record {
             base = length o.job.members;
-            rows = rows_of n o.rows;
-            products = products_of n o.products;
-            outcome = subst (λ l. IsOutcome (setting_of n s.shared) l (pairs_of o.job.pairs) (rows_of n o.rows) (products_of n o.products))
+            rows = reduct_rows_of n o.rows;
+            products = indexed_products_of n o.products;
+            outcome = subst (λ l. IsOutcome (setting_of n s.shared) l (pairs_of o.job.pairs) (reduct_rows_of n o.rows) (indexed_products_of n o.products))
                 (base_vectors n s.members o.job.members job.members) outcome;
             first = length G;
             after = omega (arith, job.had, long);
             had = omega arith;
             failed = number;
-            within = omega (arith, ap length r.split, length-append r.before (r.row ∷ r.later), length-map o.rows (λ x. row_of n x));
+            within = omega (arith, ap length r.split, length-append r.before (r.row ∷ r.later), length-map o.rows (λ x. reduct_row_of n x));
             made = made;
-            makes = subst (λ l. MakesMembers (setting_of n s.shared) l (take number (rows_of n o.rows)) made) (sym (all_of G)) makes;
+            makes = subst (λ l. MakesMembers (setting_of n s.shared) l (take number (reduct_rows_of n o.rows)) made) (sym (all_of G)) makes;
             members = members ∙ ap (λ l. l ++ vectors made) (sym (all_of G));
             division = terms_of n (earlier_products (r.stops).first (r.stops).later);
             reached = reached_here;
@@ -325,7 +326,7 @@ module _ (s : Shown) (o : OutcomeShown) (after : List MemberShown) (row : RowTra
     reached = reached_here;
   }
     where
-      reached_here : AreReached s.shared.ring.modulus.value (trail_of n t).members (row_at (rows_of n o.rows) number).vector []
+      reached_here : AreReached s.shared.ring.modulus.value (trail_of n t).members (row_at (reduct_rows_of n o.rows) number).vector []
           (terms_of n (earlier_products (r.stops).first (r.stops).later) ++ (((trail_of n t).last, 1) ∷ []))
       reached_here = subst (λ (z : List (FormalSum n) × FormalSum n × plain.Product n). AreReached s.shared.ring.modulus.value z.0 z.1 []
           (terms_of n (earlier_products (r.stops).first (r.stops).later) ++ ((z.2, 1) ∷ [])))

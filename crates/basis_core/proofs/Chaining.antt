@@ -10,7 +10,7 @@ use Rattle.bases.specs.Leads.{head_key}
 use Rattle.term_lists.specs.Rings.{variables}
 use Rattle.term_lists.specs.Vectors.{IsTerm, key_of, sum_of}
 use Rattle.term_lists.specs.declared.key.Key.{Key as CodeKey}
-use Rattle.module_vectors.specs.Trails.{HasKey, IsInProduct, IsKeptProduct, KeptProduct, product_lead, kept_at}
+use Rattle.module_vectors.specs.Trails.{HasKey, IsInProduct, IsKeptProduct, KeptProduct, kept_product_lead, kept_at}
 use Rattle.basis_core.specs.Chains.{IsChainTo}
 use Rattle.basis_core.specs.Members.{Shared, MemberShown}
 use Rattle.basis_core.specs.Members.{IsMemberShown}
@@ -77,7 +77,7 @@ variables_at shared ms i v k t h e l is =
 -- the lead of a product is that of the first term
 pub lead_is :
     (n : ℕ) (vs : List (List (CodeKey × ℕ))) (s : KeptProduct) (v : List (CodeKey × ℕ)) (t : CodeKey × ℕ)
-    → v ≡ get_or vs s.0 [] → 0 < length v → t ≡ get_or v 0 t → product_lead n vs s ≡ shift (exponents_of n s.1.exponents) (key_of n t.0)
+    → v ≡ get_or vs s.0 [] → 0 < length v → t ≡ get_or v 0 t → kept_product_lead n vs s ≡ shift (exponents_of n s.1.exponents) (key_of n t.0)
 lead_is n vs s v t e l is = ap (λ w. shift (exponents_of n s.1.exponents) (head_key (sum_of n w))) (sym e) ∙ go v l is
   where
     go :
@@ -186,14 +186,14 @@ pushed_chain n ws vs all at product old new lt is pushed h =
 -- a chain, and a product before it that has the lead of its first one as a key
 pub chain_before :
     (n : ℕ) (ws : List ℕ) (vs : List (List (CodeKey × ℕ))) (all : List KeptProduct) (first s : KeptProduct) (chain : List KeptProduct)
-    → IsChainTo n ws vs all first chain → IsKeptProduct n ws vs s → IsInProduct n vs (product_lead n vs first) s → IsChainTo n ws vs all s (s ∷ chain)
+    → IsChainTo n ws vs all first chain → IsKeptProduct n ws vs s → IsInProduct n vs (kept_product_lead n vs first) s → IsChainTo n ws vs all s (s ∷ chain)
 chain_before n ws vs all first s chain c known there = record {
   later = first ∷ c.later;
   products = ap (λ l. s ∷ l) c.products;
   known = (known, c.known);
   met = (
     inr (s, (0, omega arith, refl), there),
-    met_behind (HasKey {n = n} []) (IsInProduct n vs) (product_lead n vs) (s ∷ []) (first ∷ []) c.later c.met,
+    met_behind (HasKey {n = n} []) (IsInProduct n vs) (kept_product_lead n vs) (s ∷ []) (first ∷ []) c.later c.met,
   );
   last = c.last;
 }

@@ -8,7 +8,7 @@ use Rattle.term_lists.specs.Stops.{HasMonomial}
 use Rattle.term_lists.specs.Vectors.{sum_of}
 use Rattle.term_lists.specs.declared.key.Key.{Key as CodeKey}
 use Rattle.term_lists.specs.declared.ring.Ring.{Ring}
-use Rattle.module_vectors.specs.Trails.{AreMet, HasKey, IsChain, IsStart, KeptProduct, last_product, product_lead}
+use Rattle.module_vectors.specs.Trails.{AreMet, HasKey, IsChain, IsStart, KeptProduct, kept_product_lead, last_product}
 use Rattle.module_vectors.specs.declared.trail.KeptTrail.{KeptTrail}
 use Rattle.module_vectors.specs.declared.trail.TrailStart.{TrailStart}
 use Rattle.module_vectors.specs.declared.trail.WorkStop.{WorkStop}
@@ -28,7 +28,7 @@ module _ (ring : Ring) (ms : List MemberShown) (v : List (CodeKey × ℕ)) (t : 
     products = c.products;
     known = subst (λ (k : ℕ). Each (λ s. s.0 < k) (first ∷ later)) (ap length d.members ∙ length-map ms (λ m. m.vector)) c.known;
     weighed = subst (λ (r : Ring). Each (λ s. IsWeighed (variables ring) r.weights s.1) (first ∷ later)) d.over c.variables;
-    begins = subst₂ (λ (u : List (CodeKey × ℕ)) (m : List (List (CodeKey × ℕ))). HasKey (sum_of (variables ring) u) (product_lead (variables ring) m first)) d.vector d.members
+    begins = subst₂ (λ (u : List (CodeKey × ℕ)) (m : List (List (CodeKey × ℕ))). HasKey (sum_of (variables ring) u) (kept_product_lead (variables ring) m first)) d.vector d.members
         (subst (λ (s : TrailStart). IsStart (variables ring) s t.vector t.members first later) d.start c.begins);
     met = subst₂ (λ (u : List (CodeKey × ℕ)) (m : List (List (CodeKey × ℕ))). AreMet (variables ring) (sum_of (variables ring) u) m
         (first ∷ []) later) d.vector d.members c.met;

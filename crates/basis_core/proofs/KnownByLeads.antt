@@ -26,7 +26,7 @@ use Rattle.basis_steps.specs.States.{Run, vectors}
 use Rattle.basis_steps.specs.Updates.{QueuesPairs}
 use Rattle.pair_updates.specs.Leads.{LeadsShown, lead_sums, setting_of_leads as setting_by, sums_shown}
 use Rattle.pair_updates.specs.Pairs.{HasLcm as HasLcmOfLeads, IsRealPair}
-use Rattle.basis_core.specs.Jobs.{HasLcmOfMembers, pair_of, pairs_of}
+use Rattle.basis_core.specs.Jobs.{HasLcmOfMembers, index_pair_of, pairs_of}
 use Rattle.basis_core.specs.Leads.{first_key, leads_shown_of}
 use Rattle.basis_core.specs.Members.{Shared, MemberShown, members_of, setting_of}
 
@@ -172,7 +172,7 @@ module _ (shared : Shared) (ms : List MemberShown) where
       (sorted_same (setting_by n l) S refl refl (sums_shown l) G (keys_same n ms) new) h
 
   lcm_known : (x : CodePair) → HasLcmOfLeads l x → HasLcmOfMembers n shared.ring.weights ms x
-  lcm_known x h = record { weighed = h.weighed; lcm = h.lcm ∙ lcm_same (sums_shown l) G (keys_same n ms) (pair_of x) }
+  lcm_known x h = record { weighed = h.weighed; lcm = h.lcm ∙ lcm_same (sums_shown l) G (keys_same n ms) (index_pair_of x) }
 
   pub lcms_known : (xs : List CodePair) → Each (IsRealPair l) xs → Each (HasLcmOfMembers n shared.ring.weights ms) xs
   lcms_known [] h = tt
@@ -180,7 +180,7 @@ module _ (shared : Shared) (ms : List MemberShown) where
 
   pub pairs_known : (xs : List CodePair) → Each (IsRealPair l) xs → Each (IsPair G) (pairs_of xs)
   pairs_known [] h = tt
-  pairs_known (x ∷ xs) h = (pair_same (sums_shown l) G (keys_same n ms) (keys_length n ms) (pair_of x) h.0.pair, pairs_known xs h.1)
+  pairs_known (x ∷ xs) h = (pair_same (sums_shown l) G (keys_same n ms) (keys_length n ms) (index_pair_of x) h.0.pair, pairs_known xs h.1)
 
 -- ---- the keys of the leads, one after another
 pub drop_front : {X : Type 0} (k : ℕ) (xs ys : List X) → k ≤ length xs → drop k (xs ++ ys) ≡ drop k xs ++ ys

@@ -14,7 +14,7 @@ use Rattle.basis_steps.specs.Divisions.{IsMonicMember, MakesMembers}
 use Rattle.basis_steps.specs.States.{Member, vectors}
 use Rattle.basis_core.proofs.Making.{makes_append}
 use Rattle.basis_core.specs.Makings.{HaveMadeRows}
-use Rattle.basis_core.specs.Members.{IsRunMember, IsRunRow, Shared, MemberShown, member_of, members_of, row_of, rows_of, setting_of}
+use Rattle.basis_core.specs.Members.{IsRunMember, IsRunRow, Shared, MemberShown, member_of, members_of, reduct_row_of, reduct_rows_of, setting_of}
 use Rattle.basis_core.specs.RowDivision.{with_multiple}
 use Rattle.basis_core.proofs.Tracking.{rows_more}
 
@@ -24,8 +24,8 @@ members-append n ms ns = map-append (λ m. member_of n m) ms ns
 pub vectors_more : (n : ℕ) (ms made : List MemberShown) → vectors (members_of n (ms ++ made)) ≡ vectors (members_of n ms) ++ vectors (members_of n made)
 vectors_more n ms made = ap vectors (members-append n ms made) ∙ vectors-append (members_of n ms) (members_of n made)
 
-pub rows-append : (n : ℕ) (rows more : List CodeReduct) → rows_of n (rows ++ more) ≡ rows_of n rows ++ rows_of n more
-rows-append n rows more = map-append (λ row. row_of n row) rows more
+pub rows-append : (n : ℕ) (rows more : List CodeReduct) → reduct_rows_of n (rows ++ more) ≡ reduct_rows_of n rows ++ reduct_rows_of n more
+rows-append n rows more = map-append (λ row. reduct_row_of n row) rows more
 
 -- monic members stay so
 makes_monic :
@@ -49,9 +49,9 @@ more_made n shared ms rows mid more after one two = record {
   same = two.same ∙ ap (λ l. l ++ two.made) one.same ∙ append_assoc ms one.made two.made;
   makes = subst (λ (l : List (Member n) × List (Member n)). MakesMembers (setting_of n shared) (vectors (members_of n ms)) l.0 l.1)
       (λ i. (sym (rows-append n rows more) i, sym (members-append n one.made two.made) i))
-      (makes_append (setting_of n shared) (vectors (members_of n ms)) (rows_of n rows) (members_of n one.made) (rows_of n more)
+      (makes_append (setting_of n shared) (vectors (members_of n ms)) (reduct_rows_of n rows) (members_of n one.made) (reduct_rows_of n more)
       (members_of n two.made) one.makes
-      (subst (λ l. MakesMembers (setting_of n shared) l (rows_of n more) (members_of n two.made))
+      (subst (λ l. MakesMembers (setting_of n shared) l (reduct_rows_of n more) (members_of n two.made))
       (ap (λ l. vectors (members_of n l)) one.same ∙ vectors_more n ms one.made) two.makes));
 }
 
@@ -61,7 +61,7 @@ pub made_monic :
     → Each (IsMonicMember (setting_of n shared)) (vectors (members_of n after))
 made_monic n shared ms rows after m h =
     subst (Each (IsMonicMember (setting_of n shared))) (sym (ap (λ l. vectors (members_of n l)) m.same ∙ vectors_more n ms m.made))
-    (makes_monic (setting_of n shared) (vectors (members_of n ms)) (rows_of n rows) (members_of n m.made) m.makes h)
+    (makes_monic (setting_of n shared) (vectors (members_of n ms)) (reduct_rows_of n rows) (members_of n m.made) m.makes h)
 
 -- the rows before one of them, that one, and those behind it
 pub rows_split :

@@ -10,7 +10,7 @@ use Rattle.term_lists.proofs.NormalVectors.{residues_of}
 use Rattle.term_lists.specs.Rings.{ring_comparison}
 use Rattle.term_lists.specs.Vectors.{IsVector, IsVectorOver, sum_of, sums_of}
 use Rattle.term_lists.specs.declared.key.Key.{Key as CodeKey}
-use Rattle.module_vectors.specs.Trails.{HasKey, IsInProduct, KeptProduct, product_lead}
+use Rattle.module_vectors.specs.Trails.{HasKey, IsInProduct, KeptProduct, kept_product_lead}
 use Rattle.vector_division.proofs.Members.{sums_at}
 use Rattle.vector_division.proofs.Occurring.{at_key, nonzeros, occurs, scaled_key}
 use Rattle.basis_steps.specs.Divisions.{Occurs}
@@ -18,7 +18,7 @@ use Rattle.basis_steps.specs.Outcomes as plain
 use Rattle.basis_steps.specs.Outcomes.{product_vector}
 use Rattle.basis_steps.specs.States.{vectors}
 use Rattle.basis_core.specs.Members.{Shared, MemberShown, members_of}
-use Rattle.basis_core.specs.Outcomes.{product_of}
+use Rattle.basis_core.specs.Outcomes.{indexed_product_of}
 use Rattle.basis_core.specs.Members.{IsMemberShown}
 use Rattle.basis_core.specs.Rows.{vectors_in}
 
@@ -37,13 +37,13 @@ member_vector shared (m ∷ ms) (suc k) h = member_vector shared ms k h.1
 
 -- ---- keys of products
 -- the lead of a product, by the vectors of a list
-pub lead_same : (n : ℕ) (list : List (List (CodeKey × ℕ))) (s : KeptProduct) → plain.product_lead (sums_of n list) (product_of n s) ≡ product_lead n list s
+pub lead_same : (n : ℕ) (list : List (List (CodeKey × ℕ))) (s : KeptProduct) → plain.product_lead (sums_of n list) (indexed_product_of n s) ≡ kept_product_lead n list s
 lead_same n list s = ap (λ v. shift (exponents_of n s.1.exponents) (head_key v)) (sums_at n list s.0)
 
 -- what occurs in a product is a key of it
 pub occurs_in :
     (n p : ℕ) (vs : List (List (CodeKey × ℕ))) (G : List (FormalSum n)) (s : KeptProduct) (k : Key n)
-    → get_or G s.0 [] ≡ sum_of n (get_or vs s.0 []) → Occurs p (product_vector G (product_of n s)) k → IsInProduct n vs k s
+    → get_or G s.0 [] ≡ sum_of n (get_or vs s.0 []) → Occurs p (product_vector G (indexed_product_of n s)) k → IsInProduct n vs k s
 occurs_in n p vs G s k e o = go (occurs (scale 1 (exponents_of n s.1.exponents) (get_or G s.0 [])) k)
   where
     go :
@@ -74,7 +74,7 @@ module _ {n : ℕ} (S : Setting n) (lawful : IsLawful S) where
   pub in_occurs :
       (vs : List (List (CodeKey × ℕ))) (G : List (FormalSum n)) (s : KeptProduct) (k : Key n)
       → get_or G s.0 [] ≡ sum_of n (get_or vs s.0 []) → IsVector n S.weights S.modulus S.compare (get_or vs s.0 [])
-      → IsInProduct n vs k s → Occurs S.modulus (product_vector G (product_of n s)) k
+      → IsInProduct n vs k s → Occurs S.modulus (product_vector G (indexed_product_of n s)) k
   in_occurs vs G s k e v (l, there, is) z =
       let t : Exponents n = exponents_of n s.1.exponents in
       let same : coefficient (sum_of n (get_or vs s.0 [])) l ≡ coefficient (scale 1 t (get_or G s.0 [])) k =

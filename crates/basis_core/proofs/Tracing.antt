@@ -11,7 +11,7 @@ use Rattle.monomial_orders.specs.Kept.{Monomial}
 use Rattle.term_lists.specs.Rings.{variables}
 use Rattle.term_lists.specs.Vectors.{IsMonomialOver, sum_of}
 use Rattle.term_lists.specs.declared.key.Key.{Key as CodeKey}
-use Rattle.module_vectors.specs.Trails.{AreMet, HasKey, IsInProduct, IsKeptProduct, KeptProduct, no_product, product_lead, kept_at}
+use Rattle.module_vectors.specs.Trails.{AreMet, HasKey, IsInProduct, IsKeptProduct, KeptProduct, no_product, kept_product_lead, kept_at}
 use Rattle.pair_criteria.specs.declared.pair.Pair.{Pair as CodePair}
 use Rattle.basis_steps.proofs.Counting.{is_same_pair-refl, is_same_pair-true}
 use Rattle.basis_steps.proofs.JobProducts.{job_product_at}
@@ -24,9 +24,9 @@ use Rattle.basis_steps.specs.Outcomes.{IsOutcome, IsReduct, OccursBefore, produc
 use Rattle.basis_steps.specs.Pairs.{Pair, count, is_same_pair}
 use Rattle.basis_steps.specs.States.{Member, Product, vectors}
 use Rattle.pair_criteria.specs.Traces.{AreTraced}
-use Rattle.basis_core.specs.Jobs.{HasLcmOfMembers, pair_of, pairs_of}
-use Rattle.basis_core.specs.Members.{IsRunRow, IsMemberShown, Shared, MemberShown, members_of, row_of, rows_of, setting_of}
-use Rattle.basis_core.specs.Outcomes.{product_of, products_of}
+use Rattle.basis_core.specs.Jobs.{HasLcmOfMembers, index_pair_of, pairs_of}
+use Rattle.basis_core.specs.Members.{IsRunRow, IsMemberShown, Shared, MemberShown, members_of, reduct_row_of, reduct_rows_of, setting_of}
+use Rattle.basis_core.specs.Outcomes.{indexed_product_of, indexed_products_of}
 use Rattle.basis_core.specs.Rows.{IsRowTrail, vectors_in}
 use Rattle.basis_core.proofs.AfterPut.{members_length}
 use Rattle.basis_core.proofs.MemberKeys.{key_occurs, occurs_in, vector_at}
@@ -50,29 +50,29 @@ step_behind (x ∷ xs) ys i = ap (kept_at (x ∷ (xs ++ ys))) sucs ∙ step_behi
     sucs = omega arith
 
 -- a pair that stands in the list
-pub counted_pair : (x : Pair) (xs : List CodePair) → 0 < count x (pairs_of xs) → (y : CodePair) × Contains xs y × (pair_of y ≡ x)
+pub counted_pair : (x : Pair) (xs : List CodePair) → 0 < count x (pairs_of xs) → (y : CodePair) × Contains xs y × (index_pair_of y ≡ x)
 counted_pair x [] l = absurd (omega arith)
-counted_pair x (y ∷ xs) l = go (is_same_pair x (pair_of y)) refl (counted_pair x xs)
+counted_pair x (y ∷ xs) l = go (is_same_pair x (index_pair_of y)) refl (counted_pair x xs)
   where
-    go : (b : Bool) → is_same_pair x (pair_of y) ≡ b → (0 < count x (pairs_of xs) → (z : CodePair) × Contains xs z × (pair_of z ≡ x))
-        → (z : CodePair) × Contains (y ∷ xs) z × (pair_of z ≡ x)
-    go true e rest = (y, (0, omega arith, refl), sym (is_same_pair-true x (pair_of y) e))
+    go : (b : Bool) → is_same_pair x (index_pair_of y) ≡ b → (0 < count x (pairs_of xs) → (z : CodePair) × Contains xs z × (index_pair_of z ≡ x))
+        → (z : CodePair) × Contains (y ∷ xs) z × (index_pair_of z ≡ x)
+    go true e rest = (y, (0, omega arith, refl), sym (is_same_pair-true x (index_pair_of y) e))
     go false e rest =
-        let none : ◌≡◌ {A = ℕ} (cond (is_same_pair x (pair_of y)) 1 0) 0 = ap (λ b. cond b 1 0) e in
+        let none : ◌≡◌ {A = ℕ} (cond (is_same_pair x (index_pair_of y)) 1 0) 0 = ap (λ b. cond b 1 0) e in
         let r = rest (omega (arith, l, none)) in
         (r.0, later r.0 r.1, r.2)
       where
         later : (z : CodePair) → Contains xs z → Contains (y ∷ xs) z
         later z (k, lt, e) = (suc k, omega arith, e)
 
-pub pair_counted : (y : CodePair) (xs : List CodePair) → Contains xs y → 0 < count (pair_of y) (pairs_of xs)
+pub pair_counted : (y : CodePair) (xs : List CodePair) → Contains xs y → 0 < count (index_pair_of y) (pairs_of xs)
 pair_counted y xs (k, l, e) = go xs k l e
   where
-    go : (xs : List CodePair) (k : ℕ) → k < length xs → get_or xs k y ≡ y → 0 < count (pair_of y) (pairs_of xs)
+    go : (xs : List CodePair) (k : ℕ) → k < length xs → get_or xs k y ≡ y → 0 < count (index_pair_of y) (pairs_of xs)
     go [] k l e = absurd (omega arith)
     go (x ∷ xs) zero l e =
-        let same : is_same_pair (pair_of y) (pair_of x) ≡ true = ap (λ z. is_same_pair (pair_of y) (pair_of z)) e ∙ is_same_pair-refl (pair_of y) in
-        let one : ◌≡◌ {A = ℕ} (cond (is_same_pair (pair_of y) (pair_of x)) 1 0) 1 = ap (λ b. cond b 1 0) same in
+        let same : is_same_pair (index_pair_of y) (index_pair_of x) ≡ true = ap (λ z. is_same_pair (index_pair_of y) (index_pair_of z)) e ∙ is_same_pair-refl (index_pair_of y) in
+        let one : ◌≡◌ {A = ℕ} (cond (is_same_pair (index_pair_of y) (index_pair_of x)) 1 0) 1 = ap (λ b. cond b 1 0) same in
         omega (arith, one)
     go (x ∷ xs) (suc k) l e = omega (arith, go xs k (omega arith) e)
 
@@ -98,23 +98,23 @@ listed_length (m ∷ ms) = ap suc (listed_length ms)
 pub met_index :
     (n : ℕ) (v : FormalSum n) (vs : List (List (CodeKey × ℕ))) (earlier later : List KeptProduct)
     → AreMet n v vs earlier later → (i : ℕ) → i < length later
-    → HasKey v (product_lead n vs (kept_at later i))
-    ⊎ ((j : ℕ) × (j < length earlier + i) × IsInProduct n vs (product_lead n vs (kept_at later i)) (kept_at (earlier ++ later) j))
-met_index n v vs earlier later met i l = met_at (HasKey v) (IsInProduct n vs) (product_lead n vs) no_product earlier later met i l
+    → HasKey v (kept_product_lead n vs (kept_at later i))
+    ⊎ ((j : ℕ) × (j < length earlier + i) × IsInProduct n vs (kept_product_lead n vs (kept_at later i)) (kept_at (earlier ++ later) j))
+met_index n v vs earlier later met i l = met_at (HasKey v) (IsInProduct n vs) (kept_product_lead n vs) no_product earlier later met i l
 
 -- ---- a row that stops, of an outcome
-pub product_is : (n : ℕ) (products : List KeptProduct) (i : ℕ) → i < length products → product_at (products_of n products) i ≡ product_of n (kept_at products i)
+pub product_is : (n : ℕ) (products : List KeptProduct) (i : ℕ) → i < length products → product_at (indexed_products_of n products) i ≡ indexed_product_of n (kept_at products i)
 product_is n [] i l = absurd (omega arith)
 product_is n (s ∷ products) zero l = refl
 product_is n (s ∷ products) (suc i) l = product_is n products i (omega arith)
 
-products_length : (n : ℕ) (products : List KeptProduct) → length (products_of n products) ≡ length products
+products_length : (n : ℕ) (products : List KeptProduct) → length (indexed_products_of n products) ≡ length products
 products_length n [] = refl
 products_length n (s ∷ products) = ap suc (products_length n products)
 
-each_row : {n : ℕ} (P : Member n → Type 0) (rows : List CodeReduct) (row : CodeReduct) → Each P (rows_of n rows) → Contains rows row → P (row_of n row)
+each_row : {n : ℕ} (P : Member n → Type 0) (rows : List CodeReduct) (row : CodeReduct) → Each P (reduct_rows_of n rows) → Contains rows row → P (reduct_row_of n row)
 each_row P [] row h (k, l, e) = absurd (omega arith)
-each_row {n} P (r ∷ rows) row h (zero, l, e) = subst (λ m. P (row_of n m)) e h.0
+each_row {n} P (r ∷ rows) row h (zero, l, e) = subst (λ m. P (reduct_row_of n m)) e h.0
 each_row P (r ∷ rows) row h (suc k, l, e) = each_row P rows row h.1 (k, omega arith, e)
 
 -- an outcome over the first members, and one of its rows that stops
@@ -127,7 +127,7 @@ pub record HasStoppedRow
   pub fewer : length base ≤ length ms
   pub lcms : Each (HasLcmOfMembers (variables shared.ring) shared.ring.weights base) pairs
   pub known : Each (λ t. IsMonomialOver shared.ring t.1) products
-  pub outcome : IsOutcome (setting_of (variables shared.ring) shared) (vectors (members_of (variables shared.ring) base)) (pairs_of pairs) (rows_of (variables shared.ring) rows) (products_of (variables shared.ring) products)
+  pub outcome : IsOutcome (setting_of (variables shared.ring) shared) (vectors (members_of (variables shared.ring) base)) (pairs_of pairs) (reduct_rows_of (variables shared.ring) rows) (indexed_products_of (variables shared.ring) products)
   pub there : Contains rows row
   pub trail : IsRowTrail (variables shared.ring) shared.ring.weights ms row.vector chain last
 
@@ -154,12 +154,12 @@ module _
 
   product_known : (i : ℕ) → i < length products → (kept_at products i).0 < length base
   product_known i l =
-      let r = (job_product_at p G (pairs_of pairs) (products_of n products) (h.outcome).job_products i (omega (arith, l, products_length n products))).0 in
-      let e : (product_at (products_of n products) i).0 ≡ (kept_at products i).0 = ap (λ (t : Product n). t.0) (product_is n products i l) in
+      let r = (job_product_at p G (pairs_of pairs) (indexed_products_of n products) (h.outcome).job_products i (omega (arith, l, products_length n products))).0 in
+      let e : (product_at (indexed_products_of n products) i).0 ≡ (kept_at products i).0 = ap (λ (t : Product n). t.0) (product_is n products i l) in
       omega (arith, r, e, members_length n base)
 
   product_met :
-      (m : ℕ) (k : Key n) → OccursBefore p G (products_of n products) m k
+      (m : ℕ) (k : Key n) → OccursBefore p G (indexed_products_of n products) m k
       → (j : ℕ) × (j < m) × (j < length products) × IsInProduct n vs k (kept_at products j)
   product_met m k (j, lm, ll, o) =
       let l : j < length products = omega (arith, ll, products_length n products) in (
@@ -170,7 +170,7 @@ module _
             (subst (λ t. Occurs p (product_vector G t) k) (product_is n products j l) o),
       )
 
-  lead_same : (i : ℕ) → i < length products → plain.product_lead G (product_at (products_of n products) i) ≡ product_lead n vs (kept_at products i)
+  lead_same : (i : ℕ) → i < length products → plain.product_lead G (product_at (indexed_products_of n products) i) ≡ kept_product_lead n vs (kept_at products i)
   lead_same i l =
       ap (plain.product_lead G) (product_is n products i l)
       ∙ ap (λ v. shift (exponents_of n (kept_at products i).1.exponents) (head_key v)) (at_base (kept_at products i).0 (product_known i l))
@@ -178,35 +178,35 @@ module _
   -- a product's lead
   product_traced :
       (i : ℕ) → i < length products
-      → ((x : CodePair) × IsLcmOf n pairs (product_lead n vs (kept_at products i)) x)
-      ⊎ ((j : ℕ) × (j < i) × IsInProduct n vs (product_lead n vs (kept_at products i)) (kept_at products j))
-  product_traced i l = go (job_product_at p G (pairs_of pairs) (products_of n products) (h.outcome).job_products i (omega (arith, l, products_length n products))).1
+      → ((x : CodePair) × IsLcmOf n pairs (kept_product_lead n vs (kept_at products i)) x)
+      ⊎ ((j : ℕ) × (j < i) × IsInProduct n vs (kept_product_lead n vs (kept_at products i)) (kept_at products j))
+  product_traced i l = go (job_product_at p G (pairs_of pairs) (indexed_products_of n products) (h.outcome).job_products i (omega (arith, l, products_length n products))).1
     where
-      go : ((x : Pair) × (0 < count x (pairs_of pairs)) × (plain.product_lead G (product_at (products_of n products) i) ≡ lcm_of G x))
-          ⊎ OccursBefore p G (products_of n products) i (plain.product_lead G (product_at (products_of n products) i))
-          → ((x : CodePair) × IsLcmOf n pairs (product_lead n vs (kept_at products i)) x)
-          ⊎ ((j : ℕ) × (j < i) × IsInProduct n vs (product_lead n vs (kept_at products i)) (kept_at products j))
+      go : ((x : Pair) × (0 < count x (pairs_of pairs)) × (plain.product_lead G (product_at (indexed_products_of n products) i) ≡ lcm_of G x))
+          ⊎ OccursBefore p G (indexed_products_of n products) i (plain.product_lead G (product_at (indexed_products_of n products) i))
+          → ((x : CodePair) × IsLcmOf n pairs (kept_product_lead n vs (kept_at products i)) x)
+          ⊎ ((j : ℕ) × (j < i) × IsInProduct n vs (kept_product_lead n vs (kept_at products i)) (kept_at products j))
       go (inl (x, some, e)) =
           let y = counted_pair x pairs some in
           let lcm = (contained_each (HasLcmOfMembers n shared.ring.weights base) pairs y.0 h.lcms y.1).lcm in
           inl (y.0, (y.1, sym (lead_same i l) ∙ e ∙ ap (lcm_of G) (sym y.2) ∙ sym lcm))
       go (inr o) =
-          let r = product_met i (plain.product_lead G (product_at (products_of n products) i)) o in
+          let r = product_met i (plain.product_lead G (product_at (indexed_products_of n products) i)) o in
           inr (r.0, r.1, subst (λ k. IsInProduct n vs k (kept_at products r.0)) (lead_same i l) r.3)
 
   -- a key of the row
   row_key : (k : Key n) → HasKey (sum_of n row.vector) k → (j : ℕ) × (j < length products) × IsInProduct n vs k (kept_at products j)
   row_key k there =
       let v = (contained_each (IsRunRow shared (length base)) rows row h.rows_over h.there).vector.vector in
-      let made = row_made p G (products_of n products) (row_of n row) (each_row (IsReduct p G (products_of n products)) rows row (h.outcome).sums h.there) in
-      let r = product_met (length (products_of n products)) k (made k (key_occurs (setting_of n shared) (ring_lawful shared) row.vector k v there)) in
+      let made = row_made p G (indexed_products_of n products) (reduct_row_of n row) (each_row (IsReduct p G (indexed_products_of n products)) rows row (h.outcome).sums h.there) in
+      let r = product_met (length (indexed_products_of n products)) k (made k (key_occurs (setting_of n shared) (ring_lawful shared) row.vector k v there)) in
       (r.0, r.2, r.3)
 
   -- a step's lead
   step_traced :
       (i : ℕ) → i < length chain
-      → (j : ℕ) × (j < length products + i) × IsInProduct n vs (product_lead n vs (kept_at chain i)) (kept_at (products ++ chain) j)
-  step_traced i l = subst (λ (s : List KeptProduct). i < length s → (j : ℕ) × (j < length products + i) × IsInProduct n vs (product_lead n vs (kept_at s i))
+      → (j : ℕ) × (j < length products + i) × IsInProduct n vs (kept_product_lead n vs (kept_at chain i)) (kept_at (products ++ chain) j)
+  step_traced i l = subst (λ (s : List KeptProduct). i < length s → (j : ℕ) × (j < length products + i) × IsInProduct n vs (kept_product_lead n vs (kept_at s i))
       (kept_at (products ++ s) j)) (sym (h.trail).products) (go i) l
     where
       first : KeptProduct
@@ -215,54 +215,54 @@ module _
       later : List KeptProduct
       later = (h.trail).later
 
-      by_row : (i : ℕ) → HasKey (sum_of n row.vector) (product_lead n vs (kept_at ((h.trail).first ∷ (h.trail).later) i))
-          → (j : ℕ) × (j < length products + i) × IsInProduct n vs (product_lead n vs (kept_at ((h.trail).first ∷ (h.trail).later) i))
+      by_row : (i : ℕ) → HasKey (sum_of n row.vector) (kept_product_lead n vs (kept_at ((h.trail).first ∷ (h.trail).later) i))
+          → (j : ℕ) × (j < length products + i) × IsInProduct n vs (kept_product_lead n vs (kept_at ((h.trail).first ∷ (h.trail).later) i))
           (kept_at (products ++ (h.trail).first ∷ (h.trail).later) j)
       by_row i there =
-          let r = row_key (product_lead n vs (kept_at ((h.trail).first ∷ (h.trail).later) i)) there in (
+          let r = row_key (kept_product_lead n vs (kept_at ((h.trail).first ∷ (h.trail).later) i)) there in (
             r.0,
             omega (arith, r.1),
-            subst (IsInProduct n vs (product_lead n vs (kept_at ((h.trail).first ∷ (h.trail).later) i)))
+            subst (IsInProduct n vs (kept_product_lead n vs (kept_at ((h.trail).first ∷ (h.trail).later) i)))
                 (sym (step_front products ((h.trail).first ∷ (h.trail).later) r.0 r.1)) r.2,
           )
 
       go : (i : ℕ) → i < length ((h.trail).first ∷ (h.trail).later)
-          → (j : ℕ) × (j < length products + i) × IsInProduct n vs (product_lead n vs (kept_at ((h.trail).first ∷ (h.trail).later) i))
+          → (j : ℕ) × (j < length products + i) × IsInProduct n vs (kept_product_lead n vs (kept_at ((h.trail).first ∷ (h.trail).later) i))
           (kept_at (products ++ (h.trail).first ∷ (h.trail).later) j)
       go zero l = by_row zero (h.trail).begins
       go (suc i) l = by (met_index n (sum_of n row.vector) vs ((h.trail).first ∷ []) (h.trail).later (h.trail).met i (omega arith))
         where
-          by : HasKey (sum_of n row.vector) (product_lead n vs (kept_at (h.trail).later i))
-              ⊎ ((j : ℕ) × (j < 1 + i) × IsInProduct n vs (product_lead n vs (kept_at (h.trail).later i)) (kept_at ((h.trail).first ∷ (h.trail).later) j))
-              → (j : ℕ) × (j < length products + suc i) × IsInProduct n vs (product_lead n vs (kept_at (h.trail).later i))
+          by : HasKey (sum_of n row.vector) (kept_product_lead n vs (kept_at (h.trail).later i))
+              ⊎ ((j : ℕ) × (j < 1 + i) × IsInProduct n vs (kept_product_lead n vs (kept_at (h.trail).later i)) (kept_at ((h.trail).first ∷ (h.trail).later) j))
+              → (j : ℕ) × (j < length products + suc i) × IsInProduct n vs (kept_product_lead n vs (kept_at (h.trail).later i))
               (kept_at (products ++ (h.trail).first ∷ (h.trail).later) j)
           by (inl there) = by_row (suc i) there
           by (inr (j, lt, r)) = (
             length products + j,
             omega (arith, lt),
-            subst (IsInProduct n vs (product_lead n vs (kept_at (h.trail).later i))) (sym (step_behind products ((h.trail).first ∷ (h.trail).later) j)) r,
+            subst (IsInProduct n vs (kept_product_lead n vs (kept_at (h.trail).later i))) (sym (step_behind products ((h.trail).first ∷ (h.trail).later) j)) r,
           )
 
   -- all together
   pub all_traced : AreTraced n vs pairs (products ++ chain)
   all_traced =
-      turn_from (λ (k : Key n). (x : CodePair) × IsLcmOf n pairs k x) (IsInProduct n vs) (product_lead n vs) no_product (products ++ chain)
+      turn_from (λ (k : Key n). (x : CodePair) × IsLcmOf n pairs k x) (IsInProduct n vs) (kept_product_lead n vs) no_product (products ++ chain)
       (λ i l. go i l (cases_lt i (length products)))
     where
       go : (i : ℕ) → i < length (products ++ chain) → (i < length products) ⊎ (length products ≤ i)
-          → ((x : CodePair) × IsLcmOf n pairs (product_lead n vs (kept_at (products ++ chain) i)) x)
-          ⊎ ((j : ℕ) × (j < i) × IsInProduct n vs (product_lead n vs (kept_at (products ++ chain) i)) (kept_at (products ++ chain) j))
+          → ((x : CodePair) × IsLcmOf n pairs (kept_product_lead n vs (kept_at (products ++ chain) i)) x)
+          ⊎ ((j : ℕ) × (j < i) × IsInProduct n vs (kept_product_lead n vs (kept_at (products ++ chain) i)) (kept_at (products ++ chain) j))
       go i l (inl q) = by (product_traced i q)
         where
-          by : ((x : CodePair) × IsLcmOf n pairs (product_lead n vs (kept_at products i)) x)
-              ⊎ ((j : ℕ) × (j < i) × IsInProduct n vs (product_lead n vs (kept_at products i)) (kept_at products j))
-              → ((x : CodePair) × IsLcmOf n pairs (product_lead n vs (kept_at (products ++ chain) i)) x)
-              ⊎ ((j : ℕ) × (j < i) × IsInProduct n vs (product_lead n vs (kept_at (products ++ chain) i)) (kept_at (products ++ chain) j))
-          by (inl (x, r)) = inl (x, subst (λ s. IsLcmOf n pairs (product_lead n vs s) x) (sym (step_front products chain i q)) r)
+          by : ((x : CodePair) × IsLcmOf n pairs (kept_product_lead n vs (kept_at products i)) x)
+              ⊎ ((j : ℕ) × (j < i) × IsInProduct n vs (kept_product_lead n vs (kept_at products i)) (kept_at products j))
+              → ((x : CodePair) × IsLcmOf n pairs (kept_product_lead n vs (kept_at (products ++ chain) i)) x)
+              ⊎ ((j : ℕ) × (j < i) × IsInProduct n vs (kept_product_lead n vs (kept_at (products ++ chain) i)) (kept_at (products ++ chain) j))
+          by (inl (x, r)) = inl (x, subst (λ s. IsLcmOf n pairs (kept_product_lead n vs s) x) (sym (step_front products chain i q)) r)
           by (inr (j, lt, r)) = inr (
             j,
             lt,
-            subst (λ (z : KeptProduct × KeptProduct). IsInProduct n vs (product_lead n vs z.0) z.1)
+            subst (λ (z : KeptProduct × KeptProduct). IsInProduct n vs (kept_product_lead n vs z.0) z.1)
                 (λ t. (sym (step_front products chain i q) t, sym (step_front products chain j (omega (arith, lt, q))) t)) r,
           )
       go i l (inr q) =
@@ -270,7 +270,7 @@ module _
           let r = step_traced (i - length products) (omega (arith, l, q, length-append products chain)) in
           let there : kept_at chain (i - length products) ≡ kept_at (products ++ chain) i = sym (step_behind products chain (i - length products))
           ∙ ap (kept_at (products ++ chain)) (sym k) in
-          inr (r.0, omega (arith, r.1, q), subst (λ s. IsInProduct n vs (product_lead n vs s) (kept_at (products ++ chain) r.0)) there r.2)
+          inr (r.0, omega (arith, r.1, q), subst (λ s. IsInProduct n vs (kept_product_lead n vs s) (kept_at (products ++ chain) r.0)) there r.2)
 
   pub all_known : Each (IsKeptProduct n shared.ring.weights vs) (products ++ chain)
   all_known =

@@ -13,7 +13,8 @@ use Rattle.term_lists.specs.Rings.{ring_comparison, variables}
 use Rattle.term_lists.specs.Stops.{HasMonomial}
 use Rattle.term_lists.specs.Vectors.{IsMonomialOver, IsVectorOver, key_of, sum_of}
 use Rattle.term_lists.specs.declared.key.Key.{Key as CodeKey}
-use Rattle.module_vectors.specs.Trails.{HasKey, IsChain, IsInProduct, IsOfProduct, IsKeptProduct, KeptProduct, last_product, no_product, product_lead, kept_at}
+use Rattle.module_vectors.specs.Trails.{HasKey, IsChain, IsInProduct, IsOfProduct, IsKeptProduct}
+use Rattle.module_vectors.specs.Trails.{KeptProduct, last_product, no_product, kept_product_lead, kept_at}
 use Rattle.module_vectors.specs.declared.trail.KeptTrail.{KeptTrail}
 use Rattle.module_vectors.specs.declared.trail.TrailStart.TheVariants as starts
 use Rattle.pair_criteria.specs.declared.pair.Pair.{Pair as CodePair}
@@ -29,8 +30,8 @@ use Rattle.basis_steps.specs.States.{Product, Trail, vectors}
 use Rattle.basis_core.specs.Chains.{IsTracedTo}
 use Rattle.basis_core.specs.Jobs.{HasLcmOfMembers, IsJobOver, pairs_of}
 use Rattle.basis_core.specs.Makings.{TrailEndsAs}
-use Rattle.basis_core.specs.Members.{IsRunRow, IsMemberShown, Shared, MemberShown, members_of, rows_of, setting_of}
-use Rattle.basis_core.specs.Outcomes.{IsOutcomeOver, OutcomeShown, product_of, products_of}
+use Rattle.basis_core.specs.Members.{IsRunRow, IsMemberShown, Shared, MemberShown, members_of, reduct_rows_of, setting_of}
+use Rattle.basis_core.specs.Outcomes.{IsOutcomeOver, OutcomeShown, indexed_product_of, indexed_products_of}
 use Rattle.basis_core.specs.Rows.{IsRowTrail, vectors_in}
 use Rattle.basis_core.specs.Stops.{IsTrailBy, earlier_products, trail_by, trail_of, trail_over}
 use Rattle.basis_core.proofs.Chaining.{nonzero_at}
@@ -53,9 +54,9 @@ last_of_all products s ss =
     let e : length (products ++ s ∷ ss) - 1 ≡ length products + length ss = omega (arith, length-append products (s ∷ ss)) in
     ap (kept_at (products ++ s ∷ ss)) e ∙ step_behind products (s ∷ ss) (length ss) ∙ last_at s ss
 
-products_whole : (n : ℕ) (s : KeptProduct) (ss : List KeptProduct) → products_of n (earlier_products s ss) ++ (product_of n (last_product s ss) ∷ []) ≡ products_of n (s ∷ ss)
+products_whole : (n : ℕ) (s : KeptProduct) (ss : List KeptProduct) → indexed_products_of n (earlier_products s ss) ++ (indexed_product_of n (last_product s ss) ∷ []) ≡ indexed_products_of n (s ∷ ss)
 products_whole n s [] = refl
-products_whole n s (t ∷ ss) = ap (λ l. product_of n s ∷ l) (products_whole n t ss)
+products_whole n s (t ∷ ss) = ap (λ l. indexed_product_of n s ∷ l) (products_whole n t ss)
 
 -- ---- monomials of vectors
 term_key : (n : ℕ) (v : List (CodeKey × ℕ)) (t : CodeKey × ℕ) → Contains v t → HasKey (sum_of n v) (key_of n t.0)
@@ -143,16 +144,16 @@ module _
     position = ap (λ v. (head_key v).0) (same_vector i left) ∙ base_pair.position ∙ ap (λ v. (head_key v).0) (sym (same_vector j right));
   }
 
-  lcm_key : product_lead n vs first ≡ lcm_of base (i, j)
+  lcm_key : kept_product_lead n vs first ≡ lcm_of base (i, j)
   lcm_key = (c.lcm).1 ∙ (contained_each (HasLcmOfMembers n shared.ring.weights o.job.members) o.job.pairs c.pair h.lcms (c.lcm).0).lcm ∙ ap (lcm_of base) c.indices
 
   known : Each (IsKeptProduct n shared.ring.weights vs) (first ∷ later)
   known = (c.chain_is).known
 
-  lead_here : (s : KeptProduct) → plain.product_lead G (product_of n s) ≡ product_lead n vs s
+  lead_here : (s : KeptProduct) → plain.product_lead G (indexed_product_of n s) ≡ kept_product_lead n vs s
   lead_here s = ap (λ v. shift (exponents_of n s.1.exponents) (head_key v)) (vector_at n ms s.0)
 
-  numbered : (k : ℕ) → k < length (products_of n (first ∷ later)) → IsJobProductAt p G ((i, j) ∷ []) (products_of n (first ∷ later)) k
+  numbered : (k : ℕ) → k < length (indexed_products_of n (first ∷ later)) → IsJobProductAt p G ((i, j) ∷ []) (indexed_products_of n (first ∷ later)) k
   numbered zero l = (
     omega (arith, (known.0).0, listed_length ms, members_length n ms),
     inl ((i, j), pair_first, lead_here first ∙ lcm_key ∙ (λ t. key_lcm (head_key (sym (same_vector i left) t)) (head_key (sym (same_vector j right) t)))),
@@ -165,12 +166,12 @@ module _
   numbered (suc k) l = (here, go (met_index n [] vs (first ∷ []) later (c.chain_is).met k short))
     where
       short : k < length later
-      short = omega (arith, l, length-map later (λ t. product_of n t))
+      short = omega (arith, l, length-map later (λ t. indexed_product_of n t))
 
-      is : product_at (products_of n (first ∷ later)) (suc k) ≡ product_of n (kept_at later k)
+      is : product_at (indexed_products_of n (first ∷ later)) (suc k) ≡ indexed_product_of n (kept_at later k)
       is = product_is n (first ∷ later) (suc k) (omega (arith, short))
 
-      here : (product_at (products_of n (first ∷ later)) (suc k)).0 < length G
+      here : (product_at (indexed_products_of n (first ∷ later)) (suc k)).0 < length G
       here =
           omega (
             arith,
@@ -180,23 +181,23 @@ module _
             members_length n ms,
           )
 
-      occurs : (m : ℕ) → m < suc k → IsInProduct n vs (product_lead n vs (kept_at later k)) (kept_at (first ∷ later) m)
-          → Occurs p (product_vector G (product_at (products_of n (first ∷ later)) m))
-          (plain.product_lead G (product_at (products_of n (first ∷ later)) (suc k)))
+      occurs : (m : ℕ) → m < suc k → IsInProduct n vs (kept_product_lead n vs (kept_at later k)) (kept_at (first ∷ later) m)
+          → Occurs p (product_vector G (product_at (indexed_products_of n (first ∷ later)) m))
+          (plain.product_lead G (product_at (indexed_products_of n (first ∷ later)) (suc k)))
       occurs m low there = subst (λ (z : Product n × Key n). Occurs p (product_vector G z.0) z.1)
           (λ t. (sym (product_is n (first ∷ later) m (omega (arith, short, low))) t, sym (ap (plain.product_lead G) is ∙ lead_here (kept_at later k)) t))
-          (in_occurs (setting_of n shared) (ring_lawful shared) vs G (kept_at (first ∷ later) m) (product_lead n vs (kept_at later k))
+          (in_occurs (setting_of n shared) (ring_lawful shared) vs G (kept_at (first ∷ later) m) (kept_product_lead n vs (kept_at later k))
           (vector_at n ms (kept_at (first ∷ later) m).0) (member_vector shared ms (kept_at (first ∷ later) m).0 (h.tracked)) there)
 
-      go : HasKey {n = n} [] (product_lead n vs (kept_at later k))
-          ⊎ ((m : ℕ) × (m < length (first ∷ []) + k) × IsInProduct n vs (product_lead n vs (kept_at later k)) (kept_at ((first ∷ []) ++ later) m))
-          → plain.IsJobLcm G ((i, j) ∷ []) (plain.product_lead G (product_at (products_of n (first ∷ later)) (suc k)))
-          ⊎ plain.OccursBefore p G (products_of n (first ∷ later)) (suc k) (plain.product_lead G (product_at (products_of n (first ∷ later)) (suc k)))
+      go : HasKey {n = n} [] (kept_product_lead n vs (kept_at later k))
+          ⊎ ((m : ℕ) × (m < length (first ∷ []) + k) × IsInProduct n vs (kept_product_lead n vs (kept_at later k)) (kept_at ((first ∷ []) ++ later) m))
+          → plain.IsJobLcm G ((i, j) ∷ []) (plain.product_lead G (product_at (indexed_products_of n (first ∷ later)) (suc k)))
+          ⊎ plain.OccursBefore p G (indexed_products_of n (first ∷ later)) (suc k) (plain.product_lead G (product_at (indexed_products_of n (first ∷ later)) (suc k)))
       go (inl (m, low, e)) = absurd (let z : m < 0 = low in omega arith)
       go (inr (m, low, there)) = inr (m, omega (arith, low), omega (arith, l, low), occurs m (omega (arith, low)) there)
 
-  products : AreJobProducts p G ((i, j) ∷ []) (products_of n (first ∷ later))
-  products = job_products_from p G ((i, j) ∷ []) (products_of n (first ∷ later)) numbered
+  products : AreJobProducts p G ((i, j) ∷ []) (indexed_products_of n (first ∷ later))
+  products = job_products_from p G ((i, j) ∷ []) (indexed_products_of n (first ∷ later)) numbered
 
   of_last : IsOfProduct vs (last_product first later) last
   of_last = subst (λ s. IsOfProduct vs s last) (sym same_last) (h.trail).monomial
@@ -307,7 +308,7 @@ module _
         first = (h.trail).first;
         later = (h.trail).later;
         products_are = (h.trail).products;
-        last = ap (λ z. (trail_of n z).last) w ∙ ap (λ (z : Trail n). z.last) at ∙ ap (product_of n) same_last;
+        last = ap (λ z. (trail_of n z).last) w ∙ ap (λ (z : Trail n). z.last) at ∙ ap (indexed_product_of n) same_last;
       }
 
 -- ---- what the calls of a Put that stops have
@@ -324,7 +325,7 @@ has_stopped_row shared ms o taken last tracked same outcome job front r = record
   fewer = omega (arith, ap length front, length-take (length o.job.members) ms);
   lcms = subst (λ (sh : Shared). Each (HasLcmOfMembers (variables sh.ring) sh.ring.weights o.job.members) o.job.pairs) same job.lcms;
   known = subst (λ (sh : Shared). Each (λ t. IsMonomialOver sh.ring t.1) o.products) same outcome.weighed;
-  outcome = subst (λ (sh : Shared). IsOutcome (setting_of (variables sh.ring) sh) (vectors (members_of (variables sh.ring) o.job.members)) (pairs_of o.job.pairs) (rows_of (variables sh.ring) o.rows) (products_of (variables sh.ring) o.products)) same outcome.outcome;
+  outcome = subst (λ (sh : Shared). IsOutcome (setting_of (variables sh.ring) sh) (vectors (members_of (variables sh.ring) o.job.members)) (pairs_of o.job.pairs) (reduct_rows_of (variables sh.ring) o.rows) (indexed_products_of (variables sh.ring) o.products)) same outcome.outcome;
   there = r.1;
   trail = r.2;
 }

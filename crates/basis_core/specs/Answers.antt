@@ -18,8 +18,8 @@ use Rattle.basis_core.specs.declared.taken.Taken.{Taken}
 use Rattle.basis_core.specs.declared.taken.Taken.TheVariants.{Job as TookJob, Empty, Stopped}
 use Rattle.basis_core.specs.Jobs.{pairs_of}
 use Rattle.basis_core.specs.Logs.{Adds, Put, Take}
-use Rattle.basis_core.specs.Members.{Shared, MemberShown, members_of, rows_of, setting_of}
-use Rattle.basis_core.specs.Outcomes.{OutcomeShown, products_of}
+use Rattle.basis_core.specs.Members.{Shared, MemberShown, members_of, reduct_rows_of, setting_of}
+use Rattle.basis_core.specs.Outcomes.{OutcomeShown, indexed_products_of}
 use Rattle.basis_core.specs.Shown.{Shown}
 use Rattle.basis_core.specs.Stops.{IsPairTrail, IsTrailOver, trail_members, trail_of}
 use Rattle.basis_core.specs.Views.{run_of, state_of}
@@ -92,7 +92,8 @@ pub record IsJobOut (s : Shown) (o : OutcomeShown) : Type 0 where
 -- the Put of the outcome: its rows make these members, which stand behind the old ones and in the log
 pub record PutsOutcome (n : ℕ) (s : Shown) (o : OutcomeShown) (made : List MemberShown) (t : Shown) : Type 0 where
   pub puts :
-      Puts (run_of n s) (state_of n s) o.job.worker (length o.job.members) (rows_of n o.rows) (products_of n o.products) (members_of n made) (state_of n t)
+      Puts (run_of n s) (state_of n s) o.job.worker (length o.job.members) (reduct_rows_of n o.rows) (indexed_products_of n o.products)
+      (members_of n made) (state_of n t)
   pub members : t.members ≡ s.members ++ made
   pub adds : Adds (Put o.job.worker made) s t
 
@@ -103,13 +104,14 @@ pub record IsPutTrail (n : ℕ) (s : Shown) (o : OutcomeShown) (t : KeptTrail) :
   pub number : ℕ
   pub known : number < length o.rows
   pub made : List (Member n)
-  pub makes : MakesMembers (setting_of n s.shared) (vectors (members_of n s.members)) (take number (rows_of n o.rows)) made
+  pub makes : MakesMembers (setting_of n s.shared) (vectors (members_of n s.members)) (take number (reduct_rows_of n o.rows)) made
   pub members : (trail_of n t).members ≡ vectors (members_of n s.members) ++ vectors made
   pub given : HasGiven (state_of n s).history (pairs_of o.job.pairs)
   -- the products of the row's division so far, the last of the trail behind them
   pub division : FormalSum n
   pub reached :
-      AreReached s.shared.ring.modulus.value (trail_of n t).members (row_at (rows_of n o.rows) number).vector [] (division ++ (((trail_of n t).last, 1) ∷ []))
+      AreReached s.shared.ring.modulus.value (trail_of n t).members (row_at (reduct_rows_of n o.rows) number).vector
+      [] (division ++ (((trail_of n t).last, 1) ∷ []))
 
 -- Degree comes with such a trail alone
 abbrev pub PutStops : (n : ℕ) → Shown → OutcomeShown → WorkStop → Type 0

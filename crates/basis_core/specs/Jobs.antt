@@ -8,7 +8,7 @@ use Rattle.pair_criteria.specs.declared.pair.Pair.{Pair as CodePair}
 use Rattle.basis_steps.specs.Criteria.{IsPair, lcm_of}
 use Rattle.basis_steps.specs.Divisions.{IsMonicMember}
 use Rattle.basis_steps.specs.States.{vectors}
-pub use Rattle.pair_updates.specs.Pairs.{pair_of, pairs_of}
+pub use Rattle.pair_updates.specs.Pairs.{index_pair_of, pairs_of}
 use Rattle.basis_core.specs.Members.{Shared, MemberShown, members_of, setting_of}
 
 -- what contracts see of a job
@@ -21,7 +21,7 @@ pub record JobShown : Type 0 where
 -- the pair keeps the least common multiple of its leads, by these weights
 pub record HasLcmOfMembers (n : ℕ) (ws : List ℕ) (ms : List MemberShown) (x : CodePair) : Type 0 where
   pub weighed : IsWeighed n ws x.lcm.monomial
-  pub lcm : key_of n x.lcm ≡ lcm_of (vectors (members_of n ms)) (pair_of x)
+  pub lcm : key_of n x.lcm ≡ lcm_of (vectors (members_of n ms)) (index_pair_of x)
 
 -- at least one pair; the members are monic; the pairs are of two of them with leads at one position, and have their lcms
 pub record IsJob (n : ℕ) (j : JobShown) : Type 0 where

@@ -9,20 +9,20 @@ use Rattle.member_products.specs.declared.member.Reduct.{Reduct as CodeReduct}
 use Rattle.formal_sums.specs.FormalSums.{Each}
 use Rattle.basis_steps.specs.States.{vectors}
 use Rattle.basis_core.specs.Jobs.{pairs_of}
-use Rattle.basis_core.specs.Outcomes.{OutcomeShown, product_of}
+use Rattle.basis_core.specs.Outcomes.{OutcomeShown, indexed_product_of}
 use Rattle.basis_core.specs.Stops.{IsTrailBy, trail_of}
 use Rattle.basis_steps.specs.Divisions.{MakesMembers}
 use Rattle.basis_core.specs.declared.row_division.RowStop.{RowStop}
 use Rattle.basis_core.specs.declared.row_division.RowStop.TheVariants as reasons
 use Rattle.basis_core.specs.declared.row_division.RowTrail.{RowTrail}
-use Rattle.basis_core.specs.Members.{IsMemberShown, Shared, MemberShown, members_of, rows_of, setting_of}
+use Rattle.basis_core.specs.Members.{IsMemberShown, Shared, MemberShown, members_of, reduct_rows_of, setting_of}
 use Rattle.basis_core.specs.Rows.{IsRowTrail, RowStops}
 
 -- the later members are the earlier ones and those that the rows make
 pub record HaveMadeRows (n : ℕ) (shared : Shared) (ms : List MemberShown) (rows : List CodeReduct) (after : List MemberShown) : Type 0 where
   pub made : List MemberShown
   pub same : after ≡ ms ++ made
-  pub makes : MakesMembers (setting_of n shared) (vectors (members_of n ms)) (rows_of n rows) (members_of n made)
+  pub makes : MakesMembers (setting_of n shared) (vectors (members_of n ms)) (reduct_rows_of n rows) (members_of n made)
 
 -- the rows before one of them are divided, and that one stops
 pub record StopsRow (n : ℕ) (shared : Shared) (ms : List MemberShown) (rows : List CodeReduct) (after : List MemberShown) (stop : RowStop) : Type 0 where
@@ -43,7 +43,7 @@ pub record TrailEndsAs (n : ℕ) (products : List KeptProduct) (t : KeptTrail) :
   pub first : KeptProduct
   pub later : List KeptProduct
   pub products_are : products ≡ first ∷ later
-  pub last : (trail_of n t).last ≡ product_of n (last_product first later)
+  pub last : (trail_of n t).last ≡ indexed_product_of n (last_product first later)
 
 -- Degree comes where the row has stopped by the degree, with a trail by these members that starts with a pair of the job and ends as the row's does
 abbrev pub StopsAt : Shared → List MemberShown → OutcomeShown → RowStop → WorkStop → Type 0

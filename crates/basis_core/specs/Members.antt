@@ -12,7 +12,7 @@ use Rattle.member_products.specs.Members.{AreMembersOver, IsMemberOver, IsRowOve
 use Rattle.member_products.specs.declared.member.RunMember.{RunMember as CodeMember}
 use Rattle.member_products.specs.declared.member.Reduct.{Reduct as CodeReduct}
 use Rattle.member_products.specs.declared.shared.Shared.{Shared as CodeShared}
-pub use Rattle.member_products.specs.Members.{member_of, members_of, row_of, rows_of}
+pub use Rattle.member_products.specs.Members.{member_of, members_of, reduct_row_of, reduct_rows_of}
 
 -- ring, rank and generators of a run
 pub record Shared : Type 0 where

@@ -7,7 +7,7 @@ use Rattle.term_lists.specs.Rings.{variables}
 use Rattle.basis_steps.specs.Outcomes.{IsOutcome}
 use Rattle.basis_steps.specs.States.{Product, vectors}
 use Rattle.member_products.specs.declared.member.Reduct.{Reduct as CodeReduct}
-use Rattle.basis_core.specs.Members.{IsRunRow, members_of, rows_of, setting_of}
+use Rattle.basis_core.specs.Members.{IsRunRow, members_of, reduct_rows_of, setting_of}
 use Rattle.basis_core.specs.Jobs.{JobShown, pairs_of}
 
 -- what contracts see of an outcome
@@ -17,19 +17,20 @@ pub record OutcomeShown : Type 0 where
   pub products : List (ℕ × Monomial)
 
 -- a product of a monomial and a member
-abbrev pub product_of : (n : ℕ) → ℕ × Monomial → Product n
-product_of n t = (t.0, exponents_of n t.1.exponents)
+abbrev pub indexed_product_of : (n : ℕ) → ℕ × Monomial → Product n
+indexed_product_of n t = (t.0, exponents_of n t.1.exponents)
 
 -- each of them
-abbrev pub products_of : (n : ℕ) → List (ℕ × Monomial) → List (Product n)
-products_of n ts = map (λ t. product_of n t) ts
+abbrev pub indexed_products_of : (n : ℕ) → List (ℕ × Monomial) → List (Product n)
+indexed_products_of n ts = map (λ t. indexed_product_of n t) ts
 
 -- the rows are of vectors of the run and of the job's members, the products have monomials of the ring, and they are an outcome of the job
 pub record IsOutcomeIn (n : ℕ) (o : OutcomeShown) : Type 0 where
   pub rows : Each (IsRunRow o.job.shared (length o.job.members)) o.rows
   pub weighed : Each (λ t. IsWeighed n o.job.shared.ring.weights t.1) o.products
   pub outcome :
-      IsOutcome (setting_of n o.job.shared) (vectors (members_of n o.job.members)) (pairs_of o.job.pairs) (rows_of n o.rows) (products_of n o.products)
+      IsOutcome (setting_of n o.job.shared) (vectors (members_of n o.job.members)) (pairs_of o.job.pairs)
+      (reduct_rows_of n o.rows) (indexed_products_of n o.products)
 
 -- the same, in the number of variables of the job's ring
 abbrev pub IsOutcomeOver : OutcomeShown → Type 0

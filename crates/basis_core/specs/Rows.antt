@@ -4,7 +4,7 @@ use Rattle.formal_sums.specs.FormalSums.{Each}
 use Rattle.monomial_orders.specs.Kept.{IsWeighed, Monomial}
 use Rattle.term_lists.specs.Vectors.{sum_of}
 use Rattle.term_lists.specs.declared.key.Key.{Key as CodeKey}
-use Rattle.module_vectors.specs.Trails.{AreMet, HasKey, IsOfProduct, KeptProduct, last_product, product_lead}
+use Rattle.module_vectors.specs.Trails.{AreMet, HasKey, IsOfProduct, KeptProduct, kept_product_lead, last_product}
 use Rattle.basis_core.specs.declared.row_division.RowStop.{RowStop}
 use Rattle.basis_core.specs.declared.row_division.RowStop.TheVariants.{Memory, Degree}
 use Rattle.basis_core.specs.Members.{MemberShown}
@@ -20,7 +20,7 @@ pub record IsRowTrail (n : ℕ) (ws : List ℕ) (ms : List MemberShown) (v : Lis
   pub products : chain ≡ first ∷ later
   pub known : Each (λ s. s.0 < length ms) (first ∷ later)
   pub weighed : Each (λ s. IsWeighed n ws s.1) (first ∷ later)
-  pub begins : HasKey (sum_of n v) (product_lead n (vectors_in ms) first)
+  pub begins : HasKey (sum_of n v) (kept_product_lead n (vectors_in ms) first)
   pub met : AreMet n (sum_of n v) (vectors_in ms) (first ∷ []) later
   pub monomial : IsOfProduct (vectors_in ms) (last_product first later) last
   pub too_great : 65535 < (last_product first later).1.degree + last.degree

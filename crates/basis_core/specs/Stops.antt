@@ -18,7 +18,7 @@ use Rattle.basis_steps.specs.States.{Trail, vectors}
 use Rattle.basis_core.specs.declared.stop.StopReason.{StopReason}
 use Rattle.basis_core.specs.declared.stop.StopReason.TheVariants.{Pairs, Memory, Degree}
 use Rattle.basis_core.specs.Members.{Shared, MemberShown, members_of}
-use Rattle.basis_core.specs.Outcomes.{product_of, products_of}
+use Rattle.basis_core.specs.Outcomes.{indexed_product_of, indexed_products_of}
 
 -- the vectors of the trail's members
 abbrev pub trail_members : (n : ℕ) → KeptTrail → List (FormalSum n)
@@ -40,8 +40,8 @@ abbrev pub trail_by : (n : ℕ) → KeptTrail → KeptProduct → List KeptProdu
 trail_by n t first later = record {
   members = trail_members n t;
   start = start_pair t.start;
-  earlier = products_of n (earlier_products first later);
-  last = product_of n (last_product first later);
+  earlier = indexed_products_of n (earlier_products first later);
+  last = indexed_product_of n (last_product first later);
   monomial = exponents_of n t.last.exponents;
 }
 

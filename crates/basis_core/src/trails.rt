@@ -4,7 +4,7 @@ ghost use Rattle.monomials.specs.Exponents.{exponents_of, unit};
 ghost use Rattle.formal_sums.specs.FormalSums.{Each, shift};
 ghost use Rattle.term_lists.specs.Rings.{variables};
 ghost use Rattle.term_lists.specs.Vectors.{IsMonomialOver, key_of};
-ghost use Rattle.module_vectors.specs.Trails.{IsInProduct, IsKeptProduct, product_lead, kept_at};
+ghost use Rattle.module_vectors.specs.Trails.{IsInProduct, IsKeptProduct, kept_product_lead, kept_at};
 ghost use Rattle.pair_criteria.specs.declared.pair.Pair.{Pair as PairValue};
 ghost use Rattle.pair_criteria.specs.Traces.{AreTraced};
 ghost use Rattle.basis_core.specs.Chains.{IsTracedTo};
@@ -54,8 +54,8 @@ fn is_in_product(members: &Members, of: &(u64, Mono), product: &(u64, Mono)) -> 
     requires nonzero { Each (λ m. 0 < length m.vector) members.now.list }
     requires of { IsKeptProduct (variables members.now.shared.ring) members.now.shared.ring.weights (vectors_in members.now.list) of.now }
     requires product { IsKeptProduct (variables members.now.shared.ring) members.now.shared.ring.weights (vectors_in members.now.list) product.now }
-    ensures met { let n = variables members.now.shared.ring in result ≡ true → IsInProduct n (vectors_in members.now.list) (product_lead n (vectors_in members.now.list) of.now) product.now }
-    ensures apart { let n = variables members.now.shared.ring in result ≡ false → IsInProduct n (vectors_in members.now.list) (product_lead n (vectors_in members.now.list) of.now) product.now → ⊥ }
+    ensures met { let n = variables members.now.shared.ring in result ≡ true → IsInProduct n (vectors_in members.now.list) (kept_product_lead n (vectors_in members.now.list) of.now) product.now }
+    ensures apart { let n = variables members.now.shared.ring in result ≡ false → IsInProduct n (vectors_in members.now.list) (kept_product_lead n (vectors_in members.now.list) of.now) product.now → ⊥ }
 {
     members.kept();
     let lead = &members.at(of.0 as usize).terms()[0].0;
@@ -79,8 +79,8 @@ fn find_pair<'a>(
     requires variables { length one.now.exponents ≡ variables members.now.shared.ring }
     requires unit { let n = variables members.now.shared.ring in exponents_of n one.now.exponents ≡ unit n }
     requires pairs { Each (λ x. IsMonomialOver members.now.shared.ring x.lcm.monomial) pairs.now }
-    ensures some { let n = variables members.now.shared.ring in IfSome result (λ x. IsLcmOf n pairs.now (product_lead n (vectors_in members.now.list) product.now) x.now) }
-    ensures none { let n = variables members.now.shared.ring in IfNone result ((x : PairValue) → IsLcmOf n pairs.now (product_lead n (vectors_in members.now.list) product.now) x → ⊥) }
+    ensures some { let n = variables members.now.shared.ring in IfSome result (λ x. IsLcmOf n pairs.now (kept_product_lead n (vectors_in members.now.list) product.now) x.now) }
+    ensures none { let n = variables members.now.shared.ring in IfNone result ((x : PairValue) → IsLcmOf n pairs.now (kept_product_lead n (vectors_in members.now.list) product.now) x → ⊥) }
 {
     members.kept();
     let lead = &members.at(product.0 as usize).terms()[0].0;
@@ -98,10 +98,10 @@ fn find_earlier(members: &Members, all: &[(u64, Mono)], at: usize) -> usize
     requires all { Each (IsKeptProduct (variables members.now.shared.ring) members.now.shared.ring.weights (vectors_in members.now.list)) all.now }
     requires within { at < length all.now }
     requires some { let n = variables members.now.shared.ring in (j : ℕ) × (j < at)
-        × IsInProduct n (vectors_in members.now.list) (product_lead n (vectors_in members.now.list) (kept_at all.now at)) (kept_at all.now j) }
+        × IsInProduct n (vectors_in members.now.list) (kept_product_lead n (vectors_in members.now.list) (kept_at all.now at)) (kept_at all.now j) }
     ensures earlier { result < at }
     ensures met { let n = variables members.now.shared.ring in IsInProduct n (vectors_in members.now.list)
-        (product_lead n (vectors_in members.now.list) (kept_at all.now at)) (kept_at all.now result) }
+        (kept_product_lead n (vectors_in members.now.list) (kept_at all.now at)) (kept_at all.now result) }
 {
     let of = &all[at];
     for j in 0..at {

@@ -23,7 +23,7 @@ use Rattle.basis_core.specs.Views.{ending_of, history_of, run_of, state_of, vari
 use Rattle.ruled_lock.specs.declared.law.View.{View}
 use Rattle.ruled_lock.specs.Events.{calls_by}
 use Rattle.ruled_lock.specs.Plays.{Sees}
-use Rattle.basis_lock.specs.Acts.{act_of, acts_of, actor, has_ended, has_stop, held_after, took_after}
+use Rattle.basis_lock.specs.Acts.{act_of, acts_of, actor, has_ended_by_acts, has_stop, held_after, took_after}
 use Rattle.basis_lock.specs.Calls.{HasGivenSeen, IsReasonSeen, IsTrailSeen, MayFinish, MayHandIn, MayReport, MayTakeJob, own}
 use Rattle.basis_core.specs.Logs.{Base, End, Noted, Put, Stop, Take, base, by, log, made_in, members_after, notes_from, number_at_beginning}
 use Rattle.basis_lock.proofs.Acting.{acts_of_events, nobody_ended, own_acts, runs_out, runs_stop_kept, runs_stopped, runs_took, runs_works}
@@ -160,11 +160,11 @@ module _ (s : Shown) (v : View Noted Base) (replays : steps.Replays (run_of (var
   members_now : s.members ≡ members_after (base s) v.seen ++ made_in sees.0.0
   members_now = sym (members_told s) ∙ ap (members_after (base s)) sees.0.1 ∙ members_grow (base s) v.seen sees.0.0
 
-  works_now : v.worker < s.workers → has_ended (own v) ≡ false → get_or s.ended v.worker true ≡ false
+  works_now : v.worker < s.workers → has_ended_by_acts (own v) ≡ false → get_or s.ended v.worker true ≡ false
   works_now known h =
       let first = replays.0 in
       let began : get_or first.ended v.worker true ≡ false = ap (λ l. get_or l v.worker true) replays.1.ended ∙ nobody_ended s.workers v.worker known in
-      runs_works (run_of n s) v.worker first (state_of n s) (state_of n s).history replays.2 (ap has_ended (sym own_now) ∙ h) began
+      runs_works (run_of n s) v.worker first (state_of n s) (state_of n s).history replays.2 (ap has_ended_by_acts (sym own_now) ∙ h) began
 
   out_now : job_of v.worker s.out ≡ held_after [] (own v)
   out_now =

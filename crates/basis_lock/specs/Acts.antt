@@ -36,13 +36,13 @@ held_after out (Asked w ending ∷ acts) = held_after out acts
 held_after out (Stopped w ∷ acts) = held_after out acts
 
 -- has a worker ended by its acts? (a test)
-abbrev pub has_ended : List Act → Bool
-has_ended [] = false
-has_ended (Took w job ∷ acts) = has_ended acts
-has_ended (HandedIn w ∷ acts) = has_ended acts
-has_ended (Asked w plain.Ended ∷ acts) = true
-has_ended (Asked w plain.MoreWork ∷ acts) = has_ended acts
-has_ended (Stopped w ∷ acts) = has_ended acts
+abbrev pub has_ended_by_acts : List Act → Bool
+has_ended_by_acts [] = false
+has_ended_by_acts (Took w job ∷ acts) = has_ended_by_acts acts
+has_ended_by_acts (HandedIn w ∷ acts) = has_ended_by_acts acts
+has_ended_by_acts (Asked w plain.Ended ∷ acts) = true
+has_ended_by_acts (Asked w plain.MoreWork ∷ acts) = has_ended_by_acts acts
+has_ended_by_acts (Stopped w ∷ acts) = has_ended_by_acts acts
 
 -- has a worker a Take behind its last End, where it had or had not one before? (a test)
 abbrev pub took_after : Bool → List Act → Bool

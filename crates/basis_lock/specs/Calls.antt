@@ -16,14 +16,14 @@ use Rattle.basis_core.specs.declared.stop.StopReason.TheVariants as reasons
 use Rattle.basis_core.specs.declared.taken.Taken.{Taken}
 use Rattle.basis_core.specs.Answers.{AnswersTake, IsTakeOf, pairs_given}
 use Rattle.basis_core.specs.Jobs.{pairs_of}
-use Rattle.basis_core.specs.Members.{MemberShown, members_of, rows_of, setting_of}
-use Rattle.basis_core.specs.Outcomes.{OutcomeShown, products_of}
+use Rattle.basis_core.specs.Members.{MemberShown, members_of, reduct_rows_of, setting_of}
+use Rattle.basis_core.specs.Outcomes.{OutcomeShown, indexed_products_of}
 use Rattle.basis_core.specs.Shown.{Shown}
 use Rattle.basis_core.specs.Stops.{IsPairTrail, reason_of, trail_of}
 use Rattle.basis_core.specs.Views.{IsSameRun, ending_of, run_of, state_of, variables_of}
 use Rattle.ruled_lock.specs.declared.law.View.{View}
 use Rattle.ruled_lock.specs.Plays.{Holds, AddsEvent}
-use Rattle.basis_lock.specs.Acts.{Act, acts_of, has_ended, has_stop, held_after, took_after}
+use Rattle.basis_lock.specs.Acts.{Act, acts_of, has_ended_by_acts, has_stop, held_after, took_after}
 use Rattle.basis_core.specs.Logs.{Base, End, Noted, Put, Stop, Take, base, by, log, members_after}
 
 -- what the seat's worker did
@@ -33,14 +33,14 @@ own v = acts_of v.mine
 -- its worker may ask for at most `most` pairs: it has not ended, and has none out
 pub record MayTakeJob (b : Base) (v : View Noted Base) (most : ℕ) : Type 0 where
   pub known : v.worker < b.workers
-  pub works : has_ended (own v) ≡ false
+  pub works : has_ended_by_acts (own v) ≡ false
   pub free : held_after [] (own v) ≡ []
   pub some : 0 < most
 
 -- its worker may hand in the outcome: the job is out with it, of the run's generators and of the first of the members that were seen
 pub record MayHandIn (b : Base) (v : View Noted Base) (o : OutcomeShown) : Type 0 where
   pub known : v.worker < b.workers
-  pub works : has_ended (own v) ≡ false
+  pub works : has_ended_by_acts (own v) ≡ false
   pub worker : o.job.worker ≡ v.worker
   pub shared : o.job.shared ≡ b.shared
   pub out : held_after [] (own v) ≡ pairs_of o.job.pairs
@@ -50,7 +50,7 @@ pub record MayHandIn (b : Base) (v : View Noted Base) (o : OutcomeShown) : Type 
 -- its worker may end: it has not; and a Stop was seen, or it has none out and took since its last End
 pub record MayFinish (b : Base) (v : View Noted Base) : Type 0 where
   pub known : v.worker < b.workers
-  pub works : has_ended (own v) ≡ false
+  pub works : has_ended_by_acts (own v) ≡ false
   pub done : (has_stop (acts_of v.seen) ≡ true) ⊎ ((held_after [] (own v) ≡ []) × (took_after false (own v) ≡ true))
 
 -- one of these Takes gave out the job
@@ -134,7 +134,7 @@ pub record HandsIn (b : Base) (v : View Noted Base) (o : OutcomeShown) (w : View
   pub hold : IsHold b v (Put v.worker made) w before after
   pub puts :
       let n = variables_of before in
-      steps.Puts (run_of n before) (state_of n before) v.worker (length o.job.members) (rows_of n o.rows) (products_of n o.products)
+      steps.Puts (run_of n before) (state_of n before) v.worker (length o.job.members) (reduct_rows_of n o.rows) (indexed_products_of n o.products)
       (members_of n made) (state_of n after)
 
 -- an End, with its answer

@@ -8,13 +8,13 @@ use Rattle.formal_sums.proofs.WeightedSums.{Each_append}
 use Rattle.formal_sums.specs.FormalSums.{Each}
 use Rattle.term_lists.proofs.Scaling.{take_item}
 use Rattle.term_lists.proofs.Parts.{Each_member}
-use Rattle.pivot_table.specs.Law.{NamesRowOf, entry, found_by, word_of}
+use Rattle.pivot_table.specs.Law.{NamesRowOf, claim_word, entry, found_by}
 use Rattle.pivot_table.specs.declared.claims.Claim.{Claim}
 use Rattle.pivot_table.specs.declared.law.Entry.{Entry as Told}
-use Rattle.row_matrix.specs.Rows.{RowShown, first_column}
+use Rattle.row_matrix.specs.Rows.{RowShown, first_column, no_row}
 use Rattle.dense_reduction.proofs.Naming.{told_last, told_stays}
 use Rattle.dense_reduction.specs.LostRows.{AreClaimed, IsLost, numbers}
-use Rattle.dense_reduction.specs.Pivots.{lead_column, no_row}
+use Rattle.dense_reduction.specs.Pivots.{lead_column}
 use Rattle.dense_reduction.specs.Words.{AreAsTold, IsToldAfter, IsTold, WordNames, row_leads_of}
 use Rattle.dense_reduction.specs.declared.lefts.Lost.{Lost}
 
@@ -30,20 +30,20 @@ lead_read rows leads k e lt = ap (λ xs. slice_index xs k) e ∙ get_or-map (λ 
 pub told_now :
     (rows : List RowShown) (leads : List ℕ) (old new : List Told) (answer : Claim) (number k : ℕ)
     → leads ≡ row_leads_of rows → number < length rows
-    → new ≡ old ++ entry (slice_index leads number) (found_by answer) (word_of number answer) ∷ []
-    → NamesRowOf leads (slice_index leads number) (word_of number answer) → word_of number answer ≡ k + 1
+    → new ≡ old ++ entry (slice_index leads number) (found_by answer) (claim_word number answer) ∷ []
+    → NamesRowOf leads (slice_index leads number) (claim_word number answer) → claim_word number answer ≡ k + 1
     → IsTold rows new (lead_column rows number) k
 told_now rows leads old new answer number k known lt is names after =
     let n = names (omega arith) in
     let l : k < length rows = omega (arith, n.0, ap length known, length-map rows (λ (r : RowShown). first_column r.entries)) in
-    let back : word_of number answer - 1 ≡ k = omega arith in
+    let back : claim_word number answer - 1 ≡ k = omega arith in
     let column = lead_read rows leads number known lt in
     record {
       known = l;
       lead = sym (lead_read rows leads k known l) ∙ ap (slice_index leads) (sym back) ∙ n.1 ∙ column;
       named = λ words a.
           subst (λ c. WordNames words c k) column
-          (told_last words old (entry (slice_index leads number) (found_by answer) (word_of number answer)) k after (subst (AreAsTold words) is a));
+          (told_last words old (entry (slice_index leads number) (found_by answer) (claim_word number answer)) k after (subst (AreAsTold words) is a));
     }
 
 pub lost_stays : (rows : List RowShown) (old new : List Told) (l : Lost) → IsToldAfter old new → IsLost rows old l → IsLost rows new l

@@ -13,12 +13,12 @@ use Rattle.formal_sums.specs.Combinations.{combination}
 use Rattle.formal_sums.specs.FormalSums.{Each, FormalSum, IsSame, Key, coefficient, indicator, scale}
 use Rattle.row_laws.proofs.RowSpans.{IsInSpan_append, IsInSpan_itself, IsInSpan_scale}
 use Rattle.row_laws.specs.Rows.{IsInSpan}
-use Rattle.row_matrix.specs.Rows.{AreEntries, Entry, IsRow, RowShown, row_sum, source_key}
+use Rattle.row_matrix.specs.Rows.{AreEntries, Entry, IsRow, RowShown, no_row, row_sum, shown_row_at, source_key}
 use Rattle.term_lists.proofs.Scaling.{Each_at}
 use Rattle.dense_reduction.proofs.Adding.{Each_set, dense_add}
 use Rattle.dense_reduction.proofs.Entries.{entries_from, entries_push, entries_widen, monic_entries}
 use Rattle.dense_reduction.specs.Dense.{AddsMultiple, AreWithin, HasRoom, IsDense, dense_sum}
-use Rattle.dense_reduction.specs.Pivots.{lead_column, no_row, row_at, row_vectors}
+use Rattle.dense_reduction.specs.Pivots.{lead_column, row_vectors}
 use Rattle.dense_reduction.specs.Underway.{AreRowsCombined, IsReducedTo, IsRowUnderway, sources_sum, taken_sum}
 
 -- the number at a column is its residue, which is taken out
@@ -137,24 +137,24 @@ reduced_more {n} p rows v t t' row factor residue span zero e h = record {
 -- one more row was added
 taken_push :
     {n : ℕ} (key : ℕ → Key n) (rows : List RowShown) (taken : List Entry) (t : Entry)
-    → taken_sum key rows (taken ++ t ∷ []) ≡ taken_sum key rows taken ++ scale t.1 (unit n) (row_sum key (row_at rows t.0).sources)
-taken_push {n} key rows [] t = append-nil (scale t.1 (unit n) (row_sum key (row_at rows t.0).sources))
+    → taken_sum key rows (taken ++ t ∷ []) ≡ taken_sum key rows taken ++ scale t.1 (unit n) (row_sum key (shown_row_at rows t.0).sources)
+taken_push {n} key rows [] t = append-nil (scale t.1 (unit n) (row_sum key (shown_row_at rows t.0).sources))
 taken_push {n} key rows (x ∷ taken) t =
-    ap (λ r. scale x.1 (unit n) (row_sum key (row_at rows x.0).sources) ++ r) (taken_push key rows taken t)
-    ∙ sym (append_assoc (scale x.1 (unit n) (row_sum key (row_at rows x.0).sources)) (taken_sum key rows taken) (scale t.1 (unit n) (row_sum key (row_at rows t.0).sources)))
+    ap (λ r. scale x.1 (unit n) (row_sum key (shown_row_at rows x.0).sources) ++ r) (taken_push key rows taken t)
+    ∙ sym (append_assoc (scale x.1 (unit n) (row_sum key (shown_row_at rows x.0).sources)) (taken_sum key rows taken) (scale t.1 (unit n) (row_sum key (shown_row_at rows t.0).sources)))
 
 pub sources_push :
     {n : ℕ} (key : ℕ → Key n) (rows : List RowShown) (row : RowShown) (taken : List Entry) (t : Entry)
-    → sources_sum key rows row (taken ++ t ∷ []) ≡ sources_sum key rows row taken ++ scale t.1 (unit n) (row_sum key (row_at rows t.0).sources)
+    → sources_sum key rows row (taken ++ t ∷ []) ≡ sources_sum key rows row taken ++ scale t.1 (unit n) (row_sum key (shown_row_at rows t.0).sources)
 sources_push {n} key rows row taken t =
     ap (λ r. row_sum key row.sources ++ r) (taken_push key rows taken t)
-    ∙ sym (append_assoc (row_sum key row.sources) (taken_sum key rows taken) (scale t.1 (unit n) (row_sum key (row_at rows t.0).sources)))
+    ∙ sym (append_assoc (row_sum key row.sources) (taken_sum key rows taken) (scale t.1 (unit n) (row_sum key (shown_row_at rows t.0).sources)))
 
 -- the combination of the input rows grows by the same multiple
 pub combined_more :
     {n : ℕ} (p : ℕ) → 0 < p → (F : List (FormalSum n)) (key : ℕ → Key n) (rows : List RowShown) (row pivot : RowShown) (taken taken' : List Entry)
     (number factor : ℕ) (t t' : FormalSum n)
-    → taken' ≡ taken ++ (number, factor) ∷ [] → pivot ≡ row_at rows number
+    → taken' ≡ taken ++ (number, factor) ∷ [] → pivot ≡ shown_row_at rows number
     → IsSame p (combination F (row_sum (source_key n) pivot.sources)) (row_sum key pivot.entries)
     → IsSame p t' (t ++ scale factor (unit n) (row_sum key pivot.entries))
     → IsSame p (combination F (sources_sum (source_key n) rows row taken)) t
@@ -245,16 +245,16 @@ module _ (p limit c columns count : ℕ) (pivots : List ℕ) (left : List Entry)
 pub record IsPivot (p c columns inputs : ℕ) (rows : List RowShown) (row : RowShown) : Type 0 where
   pub number : ℕ
   pub within : number < length rows
-  pub at : row ≡ row_at rows number
+  pub at : row ≡ shown_row_at rows number
   pub entries : row.entries ≡ (c, 1) ∷ drop 1 row.entries
   pub tail : AreEntries p (c + 1) columns (drop 1 row.entries)
 
 pub pivot_row :
     (p c columns inputs : ℕ) (rows : List RowShown) (number : ℕ)
     → Each (IsRow p columns inputs) rows → number < length rows → lead_column rows number ≡ c
-    → IsPivot p c columns inputs rows (row_at rows number)
+    → IsPivot p c columns inputs rows (shown_row_at rows number)
 pivot_row p c columns inputs rows number h lt first =
-    let row = row_at rows number in
+    let row = shown_row_at rows number in
     let good : IsRow p columns inputs row = Each_at (IsRow p columns inputs) rows number row h lt (get_or_default rows number no_row row lt) in
     let m = monic_entries p 0 columns row.entries good.entries good.monic in
     record {

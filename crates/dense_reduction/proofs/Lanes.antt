@@ -10,7 +10,7 @@ use Rattle.std.proofs.lemmas.Slice.Eq.{slice_eq-Decides}
 use Rattle.std.specs.Cmp.Lexicographic.{pointwise}
 use Rattle.formal_sums.specs.FormalSums.{Each}
 use Rattle.term_lists.proofs.Scaling.{Each_at}
-use Rattle.row_matrix.specs.Rows.{AreEntries, Entry, IsRow, RowShown}
+use Rattle.row_matrix.specs.Rows.{AreEntries, Entry, IsRow, RowShown, no_row, shown_row_at}
 use Rattle.dense_reduction.proofs.Adding.{Each_front, Each_set, product_below}
 use Rattle.dense_reduction.proofs.Clearing.{pivot_row}
 use Rattle.dense_reduction.proofs.EightSums.{length_lane, zero_at}
@@ -18,7 +18,7 @@ use Rattle.dense_reduction.proofs.Entries.{entries_from, entries_within}
 use Rattle.dense_reduction.proofs.Reducing.{dense_start, idle_zeros, zeros_idle}
 use Rattle.dense_reduction.specs.Dense.{AreWithin, HasRoom, IsDense}
 use Rattle.dense_reduction.specs.Eights.{AreAllIdle, AreCleared, AreDense, lane}
-use Rattle.dense_reduction.specs.Pivots.{lead_column, no_row, row_at}
+use Rattle.dense_reduction.specs.Pivots.{lead_column}
 use Rattle.dense_reduction.specs.Together.{IsAdded, lane_left, lane_taken, put_residue}
 
 -- a list that was lent and written
@@ -36,7 +36,7 @@ behind_first es = take_all (length es - 1) (drop 1 es) (omega (arith, length-dro
 
 pub tail_is :
     (rows : List RowShown) (k : ℕ) (r : RowShown) (es : List Entry) → k < length rows → es ≡ (get_or rows k r).entries
-    → take (length es - 1) (drop 1 es) ≡ drop 1 (row_at rows k).entries
+    → take (length es - 1) (drop 1 es) ≡ drop 1 (shown_row_at rows k).entries
 tail_is rows k r es lt e =
     behind_first es ∙ ap (drop 1) (e ∙ ap (λ (x : RowShown). x.entries) (get_or_default rows k r no_row lt))
 
@@ -50,9 +50,9 @@ sources_good p columns inputs rows own k r h lt =
 
 pub tail_within :
     (p columns inputs : ℕ) (rows : List RowShown) (k : ℕ) → Each (IsRow p columns inputs) rows → k < length rows
-    → AreWithin p columns (drop 1 (row_at rows k).entries)
+    → AreWithin p columns (drop 1 (shown_row_at rows k).entries)
 tail_within p columns inputs rows k h lt =
-    entries_within p (lead_column rows k + 1) columns (drop 1 (row_at rows k).entries) (pivot_row p (lead_column rows k) columns inputs rows k h lt refl).tail
+    entries_within p (lead_column rows k + 1) columns (drop 1 (shown_row_at rows k).entries) (pivot_row p (lead_column rows k) columns inputs rows k h lt refl).tail
 
 -- ---- what is left, and the rows that were added
 put_append : (c r : ℕ) (es fs : List Entry) → put_residue c r (es ++ fs) ≡ put_residue c r es ++ fs

@@ -8,15 +8,15 @@ use Rattle.term_lists.proofs.Scaling.{Each_at}
 use Rattle.pivot_table.specs.declared.law.Entry.{Entry as Told}
 use Rattle.row_laws.proofs.RowSpans.{IsInSpan_itself, IsInSpan_through}
 use Rattle.row_laws.specs.Rows.{IsInSpan}
-use Rattle.row_matrix.specs.Rows.{RowShown, row_sum}
-use Rattle.dense_reduction.specs.Pivots.{no_row, row_at, row_vectors}
+use Rattle.row_matrix.specs.Rows.{RowShown, no_row, row_sum, shown_row_at}
+use Rattle.dense_reduction.specs.Pivots.{row_vectors}
 use Rattle.dense_reduction.specs.Words.{AreAsTold, IsToldAfter, IsTold, WordNames, named}
 
 -- ---- rows in the span of rows
 -- each row itself
 pub span_at :
     {n p : ℕ} (key : ℕ → Key n) (rows : List RowShown) (i : ℕ) → i < length rows
-    → IsInSpan p (row_vectors key rows) (row_sum key (row_at rows i).entries)
+    → IsInSpan p (row_vectors key rows) (row_sum key (shown_row_at rows i).entries)
 span_at {n} {p} key rows i lt =
     subst (IsInSpan p (row_vectors key rows)) (get_or-map (λ (r : RowShown). row_sum key r.entries) rows i no_row [] lt)
     (IsInSpan_itself p (row_vectors key rows) i)
@@ -24,7 +24,7 @@ span_at {n} {p} key rows i lt =
 -- rows of the span span nothing more
 pub span_through :
     {n p : ℕ} (key : ℕ → Key n) (rows others : List RowShown) (v : FormalSum n)
-    → ((i : ℕ) → i < length others → IsInSpan p (row_vectors key rows) (row_sum key (row_at others i).entries))
+    → ((i : ℕ) → i < length others → IsInSpan p (row_vectors key rows) (row_sum key (shown_row_at others i).entries))
     → IsInSpan p (row_vectors key others) v → IsInSpan p (row_vectors key rows) v
 span_through {n} {p} key rows others v h s =
     IsInSpan_through (row_vectors key rows) (row_vectors key others)
@@ -56,11 +56,11 @@ span_right {n} {p} key (b ∷ before) rows v s =
 -- a row that a word names is one of them
 pub named_at :
     (rows : List RowShown) (words : List (Option ℕ)) (c k : ℕ) → WordNames words c k
-    → (i : ℕ) × (i < length (named rows words)) × (row_at (named rows words) i ≡ row_at rows k)
+    → (i : ℕ) × (i < length (named rows words)) × (shown_row_at (named rows words) i ≡ shown_row_at rows k)
 named_at rows [] c k h = absurd (none-some (Some k) h)
 named_at rows (None ∷ words) zero k h = absurd (none-some k (same_Some None (Some k) h))
 named_at rows (None ∷ words) (suc c) k h = named_at rows words c k h
-named_at rows (Some j ∷ words) zero k h = (0, omega arith, ap (row_at rows) (same_Some j k (same_Some (Some j) (Some k) h)))
+named_at rows (Some j ∷ words) zero k h = (0, omega arith, ap (shown_row_at rows) (same_Some j k (same_Some (Some j) (Some k) h)))
 named_at rows (Some j ∷ words) (suc c) k h =
     let r = named_at rows words c k h in
     (suc r.0, omega (arith, r.1), r.2)
@@ -68,7 +68,7 @@ named_at rows (Some j ∷ words) (suc c) k h =
 -- each of them is a row that a word names
 pub named_of :
     (rows : List RowShown) (words : List (Option ℕ)) (i : ℕ) → i < length (named rows words)
-    → (c : ℕ) × (k : ℕ) × WordNames words c k × (row_at (named rows words) i ≡ row_at rows k)
+    → (c : ℕ) × (k : ℕ) × WordNames words c k × (shown_row_at (named rows words) i ≡ shown_row_at rows k)
 named_of rows [] i lt = absurd (omega arith)
 named_of rows (None ∷ words) i lt =
     let r = named_of rows words i lt in
@@ -86,12 +86,12 @@ Each_named P rows [] h known = tt
 Each_named P rows (None ∷ words) h known = Each_named P rows words h (λ c k e. known (suc c) k e)
 Each_named P rows (Some j ∷ words) h known =
     let lt = known 0 j refl in
-    (Each_at P rows j (row_at rows j) h lt (get_or_default rows j no_row (row_at rows j) lt), Each_named P rows words h (λ c k e. known (suc c) k e))
+    (Each_at P rows j (shown_row_at rows j) h lt (get_or_default rows j no_row (shown_row_at rows j) lt), Each_named P rows words h (λ c k e. known (suc c) k e))
 
 -- a row that a word names is in their span
 pub named_span :
     {n p : ℕ} (key : ℕ → Key n) (rows : List RowShown) (words : List (Option ℕ)) (c k : ℕ) → WordNames words c k
-    → IsInSpan p (row_vectors key (named rows words)) (row_sum key (row_at rows k).entries)
+    → IsInSpan p (row_vectors key (named rows words)) (row_sum key (shown_row_at rows k).entries)
 named_span {n} {p} key rows words c k h =
     let r = named_at rows words c k h in
     subst (λ (x : RowShown). IsInSpan p (row_vectors key (named rows words)) (row_sum key x.entries)) r.2 (span_at key (named rows words) r.0 r.1)

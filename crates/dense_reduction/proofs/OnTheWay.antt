@@ -8,7 +8,7 @@ use Rattle.residues.specs.Residues.{IsCongruent}
 use Rattle.formal_sums.proofs.WeightedSums.{Each_append}
 use Rattle.formal_sums.specs.FormalSums.{Each}
 use Rattle.pivot_table.specs.declared.law.Entry.{Entry as Told}
-use Rattle.row_matrix.specs.Rows.{Entry, IsRow, RowShown}
+use Rattle.row_matrix.specs.Rows.{Entry, IsRow, RowShown, no_row, shown_row_at}
 use Rattle.dense_reduction.proofs.Clearing.{none_left, one_left, pivot_added, pivot_row, underway_left, underway_none, underway_pivot, underway_skip}
 use Rattle.dense_reduction.proofs.EightSums.{length_lane}
 use Rattle.dense_reduction.proofs.Entries.{entries_from}
@@ -18,7 +18,7 @@ use Rattle.dense_reduction.proofs.Steps.{first_cleared, gone_row, pivot_entries,
 use Rattle.dense_reduction.specs.Dense.{AddsMultiple, HasRoom, IsDense}
 use Rattle.dense_reduction.specs.Eights.{AreDense, lane}
 use Rattle.dense_reduction.specs.LostRows.{IsLost}
-use Rattle.dense_reduction.specs.Pivots.{ArePivots, lead_column, no_row, row_at}
+use Rattle.dense_reduction.specs.Pivots.{ArePivots, lead_column}
 use Rattle.dense_reduction.specs.Reductions.{IsPivotFor, IsReducedSoFar}
 use Rattle.dense_reduction.specs.Together.{AreOnTheirWay, AreRests, IsAdded, IsOnItsWay, IsRowRestOrGone, lane_left, lane_taken, put_residue}
 use Rattle.dense_reduction.specs.Underway.{IsLeftRow, IsRowUnderway}
@@ -80,7 +80,7 @@ way_same p limit limit' c columns rows own pivots told left left' numbers number
     (subst (λ ts. IsOnItsWay p limit c columns rows own pivots told left numbers' ts j l) (sym et) record {
       under = subst (λ xs. IsRowUnderway p limit c columns (length (rows ++ own)) pivots (lane_left j left) xs (taken_of p l j taken)) (sym en) h.under;
       reduced =
-          subst (λ xs. IsReducedSoFar p (lead_column rows l.number + 1) rows own told (row_at rows l.number) (lane_left j left) xs (taken_of p l j taken))
+          subst (λ xs. IsReducedSoFar p (lead_column rows l.number + 1) rows own told (shown_row_at rows l.number) (lane_left j left) xs (taken_of p l j taken))
           (sym en) h.reduced;
       behind = λ i le. ap (λ xs. get_or xs i 0) en ∙ h.behind i le;
     }))
@@ -122,8 +122,8 @@ module _ (p limit c columns : ℕ) (rows own : List RowShown) (pivots : List ℕ
         subst₂ (λ es xs. IsRowUnderway p limit (c + 1) columns (length (rows ++ own)) pivots es xs (taken_of p l j taken)) (sym el) (sym en)
         (underway_none p limit c columns (length (rows ++ own)) pivots (lane_left j left) (lane j numbers) (taken_of p l j taken) h.under inside);
     reduced =
-        subst₂ (λ es xs. IsReducedSoFar p (lead_column rows l.number + 1) rows own told' (row_at rows l.number) es xs (taken_of p l j taken)) (sym el) (sym en)
-        (reduced_kept p (lead_column rows l.number + 1) rows own told told' (row_at rows l.number) (lane_left j left) (lane_left j left)
+        subst₂ (λ es xs. IsReducedSoFar p (lead_column rows l.number + 1) rows own told' (shown_row_at rows l.number) es xs (taken_of p l j taken)) (sym el) (sym en)
+        (reduced_kept p (lead_column rows l.number + 1) rows own told told' (shown_row_at rows l.number) (lane_left j left) (lane_left j left)
         (lane j numbers) (set (lane j numbers) c 0) (taken_of p l j taken) follows h.reduced.above
         (λ n key. none_left p pos key c r (lane j numbers) inside is (lane_left j left) z) h.reduced);
     behind = λ i le. ap (λ xs. get_or xs i 0) en ∙ zero_set (lane j numbers) c i inside (h.behind i le);
@@ -140,8 +140,8 @@ module _ (p limit c columns : ℕ) (rows own : List RowShown) (pivots : List ℕ
         (underway_left p limit c columns (length (rows ++ own)) pivots (lane_left j left) (lane j numbers) (taken_of p l j taken) h.under inside
         r (lane_left j left') (omega (arith, some)) small none el);
     reduced =
-        subst₂ (λ es xs. IsReducedSoFar p (lead_column rows l.number + 1) rows own told' (row_at rows l.number) es xs (taken_of p l j taken)) (sym el) (sym en)
-        (reduced_kept p (lead_column rows l.number + 1) rows own told told' (row_at rows l.number) (lane_left j left) (lane_left j left ++ (c, r) ∷ [])
+        subst₂ (λ es xs. IsReducedSoFar p (lead_column rows l.number + 1) rows own told' (shown_row_at rows l.number) es xs (taken_of p l j taken)) (sym el) (sym en)
+        (reduced_kept p (lead_column rows l.number + 1) rows own told told' (shown_row_at rows l.number) (lane_left j left) (lane_left j left ++ (c, r) ∷ [])
         (lane j numbers) (set (lane j numbers) c 0) (taken_of p l j taken) follows
         (Each_append (λ (e : Entry). lead_column rows l.number + 1 ≤ e.0) (lane_left j left) ((c, r) ∷ []) h.reduced.above
         ((let lt = above some in omega (arith, lt)), tt))
@@ -167,12 +167,12 @@ module _ (p limit c columns : ℕ) (rows own : List RowShown) (pivots : List ℕ
       (number limit' inputs : ℕ) (residues factors : List ℕ) (middle numbers' : List (List ℕ)) (taken' : List (ℕ × List ℕ))
       → Each (IsRow p columns inputs) rows → Each (IsRow p columns inputs) own → IsPivotFor p rows own told' c number
       → r ≡ get_or residues j 0 → lane j middle ≡ set (lane j numbers) c 0
-      → IsAdded p (drop 1 (row_at (rows ++ own) number).entries) (get_or residues j 0) (get_or factors j 0) (lane j middle) (lane j numbers')
+      → IsAdded p (drop 1 (shown_row_at (rows ++ own) number).entries) (get_or residues j 0) (get_or factors j 0) (lane j middle) (lane j numbers')
       → taken' ≡ taken ++ (number, factors) ∷ [] → HasRoom p limit' → IsDense limit' (lane j numbers')
       → IsOnItsWay p limit' (c + 1) columns rows own pivots told' left numbers' taken' j l
   way_added number limit' inputs residues factors middle numbers' taken' good more pivot e en a et room small =
       let f = get_or factors j 0 in
-      let tail = drop 1 (row_at (rows ++ own) number).entries in
+      let tail = drop 1 (shown_row_at (rows ++ own) number).entries in
       let g = pivot_entries p c columns inputs number rows own told' good more pivot in
       let adds : AddsMultiple p f tail (set (lane j numbers) c 0) (lane j numbers') = subst (λ xs. AddsMultiple p f tail xs (lane j numbers')) en a.adds in
       let cancels : IsCongruent p (f + r) 0 = subst (λ x. IsCongruent p (f + x) 0) (sym e) a.cancels in
@@ -186,9 +186,9 @@ module _ (p limit c columns : ℕ) (rows own : List RowShown) (pivots : List ℕ
       record {
         under = under;
         reduced =
-            reduced_added p (lead_column rows l.number + 1) c number f r rows own told told' (row_at rows l.number) (lane_left j left) (lane_left j left)
+            reduced_added p (lead_column rows l.number + 1) c number f r rows own told told' (shown_row_at rows l.number) (lane_left j left) (lane_left j left)
             (lane j numbers) (lane j numbers') T T' pos follows pivot cancels refl grown
-            (λ n key. pivot_added p pos key c r (lane j numbers) inside is (lane_left j left) (row_at (rows ++ own) number).entries tail f (lane j numbers')
+            (λ n key. pivot_added p pos key c r (lane j numbers) inside is (lane_left j left) (shown_row_at (rows ++ own) number).entries tail f (lane j numbers')
             g.entries cancels (adds.sum n key)) h.reduced;
         behind = λ i le. elim (cases_eq r 0) [
           | inl z ↦ ap (λ xs. get_or xs i 0) ((a.idle (sym e ∙ z)).1 ∙ en) ∙ zero_set (lane j numbers) c i inside (h.behind i le)
@@ -202,8 +202,8 @@ pub way_start :
     (left : List (ℕ × List ℕ)) (zeros between numbers : List (List ℕ)) (taken : List (ℕ × List ℕ)) (j : ℕ) (l : Lost)
     → 1 < p → Each (IsRow p columns inputs) rows → IsLost rows known l → left ≡ [] → taken ≡ []
     → length zeros ≡ columns → Each (λ a. a ≡ 0) (lane j zeros)
-    → AddsMultiple p 1 (drop 1 (row_at rows l.number).entries) (lane j zeros) (lane j between)
-    → AddsMultiple p (p - 1) (drop 1 (row_at rows l.winner).entries) (lane j between) (lane j numbers)
+    → AddsMultiple p 1 (drop 1 (shown_row_at rows l.number).entries) (lane j zeros) (lane j between)
+    → AddsMultiple p (p - 1) (drop 1 (shown_row_at rows l.winner).entries) (lane j between) (lane j numbers)
     → HasRoom p limit → IsDense limit (lane j numbers)
     → IsOnItsWay p limit 0 columns rows own pivots known left numbers taken j l
 way_start p limit columns inputs rows own pivots known left zeros between numbers taken j l one good lost el et count idle a a' room small =
@@ -212,8 +212,8 @@ way_start p limit columns inputs rows own pivots known left zeros between number
     let g = pivot_row p c columns inputs rows l.number good lost.known refl in
     let g' = pivot_row p c columns inputs rows l.winner good lost.held.known lost.held.lead in
     let zero : lane j zeros ≡ replicate columns 0 = idle_zeros columns (lane j zeros) (length_lane j zeros ∙ count, idle) in
-    let there : row_at (rows ++ own) l.winner ≡ row_at rows l.winner = get_or_append_left rows own no_row l.winner lost.held.known in
-    let first : (row_at (rows ++ own) l.winner).entries ≡ (c, 1) ∷ drop 1 (row_at rows l.winner).entries =
+    let there : shown_row_at (rows ++ own) l.winner ≡ shown_row_at rows l.winner = get_or_append_left rows own no_row l.winner lost.held.known in
+    let first : (shown_row_at (rows ++ own) l.winner).entries ≡ (c, 1) ∷ drop 1 (shown_row_at rows l.winner).entries =
     ap (λ (r : RowShown). r.entries) there ∙ g'.entries in
     let cancels : IsCongruent p (p - 1 + 1) 0 =
     IsCongruent_trans (IsCongruent_of p (p - 1 + 1) p (omega (arith, one))) (record { same = mod_self p ∙ sym (zero-mod p) }) in
@@ -229,13 +229,13 @@ way_start p limit columns inputs rows own pivots known left zeros between number
         free = tt;
       };
       reduced =
-          first_cleared p c columns l.winner (p - 1) rows own known (row_at rows l.number) (drop 1 (row_at rows l.winner).entries)
+          first_cleared p c columns l.winner (p - 1) rows own known (shown_row_at rows l.number) (drop 1 (shown_row_at rows l.winner).entries)
           (lane j zeros) (lane j between) (lane j numbers) [] ((l.winner, p - 1) ∷ [])
           pos (pivot_told p c l.winner rows own known lost.held) g.entries first zero a a' cancels refl refl;
       behind = λ i le.
           let lt : i < c + 1 = omega (arith, le) in
-          a'.before i (entries_from p (c + 1) columns i (drop 1 (row_at rows l.winner).entries) g'.tail lt)
-          ∙ a.before i (entries_from p (c + 1) columns i (drop 1 (row_at rows l.number).entries) g.tail lt)
+          a'.before i (entries_from p (c + 1) columns i (drop 1 (shown_row_at rows l.winner).entries) g'.tail lt)
+          ∙ a.before i (entries_from p (c + 1) columns i (drop 1 (shown_row_at rows l.number).entries) g.tail lt)
           ∙ ap (λ xs. get_or xs i 0) zero ∙ zeros_at columns i;
     })
 
@@ -279,7 +279,7 @@ module _ (p limit c columns : ℕ) (rows own : List RowShown) (pivots : List ℕ
       (number limit' inputs : ℕ) (factors : List ℕ) (left' : List (ℕ × List ℕ)) (numbers' : List (List ℕ)) (taken' : List (ℕ × List ℕ))
       → Each (IsRow p columns inputs) rows → Each (IsRow p columns inputs) own → IsPivotFor p rows own told' c number
       → ((j : ℕ) → j < 8
-      → IsAdded p (drop 1 (row_at (rows ++ own) number).entries) (get_or residues j 0) (get_or factors j 0) (lane j middle) (lane j numbers'))
+      → IsAdded p (drop 1 (shown_row_at (rows ++ own) number).entries) (get_or residues j 0) (get_or factors j 0) (lane j middle) (lane j numbers'))
       → left' ≡ left → taken' ≡ taken ++ (number, factors) ∷ [] → HasRoom p limit' → AreDense limit' numbers'
       → AreOnTheirWay p limit' (c + 1) columns rows own pivots told' left' numbers' taken' 0 lost
   ways_added number limit' inputs factors left' numbers' taken' good more pivot added el et room small =
@@ -295,14 +295,14 @@ pub way_rest :
     (left : List (ℕ × List ℕ)) (numbers : List (List ℕ)) (taken : List (ℕ × List ℕ)) (j : ℕ) (l : Lost) (rest : Option RowShown)
     → 0 < p → ArePivots p columns inputs own pivots
     → MatchOption rest (lane_left j left ≡ [])
-    (IsLeftRow p columns inputs (rows ++ own) (row_at rows l.number) (lane_left j left) (taken_of p l j taken))
+    (IsLeftRow p columns inputs (rows ++ own) (shown_row_at rows l.number) (lane_left j left) (taken_of p l j taken))
     → IsOnItsWay p limit columns columns rows own pivots known left numbers taken j l
-    → IsRowRestOrGone p columns inputs rows own known (row_at rows l.number) rest
+    → IsRowRestOrGone p columns inputs rows own known (shown_row_at rows l.number) rest
 way_rest p limit columns inputs rows own pivots known left numbers taken j l None pos h e w =
-    gone_row p (lead_column rows l.number + 1) limit columns inputs (length (rows ++ own)) pos rows own known pivots (row_at rows l.number)
+    gone_row p (lead_column rows l.number + 1) limit columns inputs (length (rows ++ own)) pos rows own known pivots (shown_row_at rows l.number)
     (lane_left j left) (lane j numbers) (taken_of p l j taken) w.under w.reduced e
 way_rest p limit columns inputs rows own pivots known left numbers taken j l (Some r) pos h e w =
-    rest_row p (lead_column rows l.number + 1) limit columns inputs (length (rows ++ own)) pos rows own known pivots (row_at rows l.number)
+    rest_row p (lead_column rows l.number + 1) limit columns inputs (length (rows ++ own)) pos rows own known pivots (shown_row_at rows l.number)
     (lane_left j left) (lane j numbers) (taken_of p l j taken) w.under w.reduced r h e
 
 -- in the code's words
@@ -310,11 +310,11 @@ pub way_left_over :
     (p limit columns inputs : ℕ) (rows own : List RowShown) (pivots : List ℕ) (known : List Told)
     (left : List (ℕ × List ℕ)) (numbers : List (List ℕ)) (taken : List (ℕ × List ℕ)) (j : ℕ) (l : Lost) (rest : Option RowShown)
     (m : ℕ) (row : RowShown) (es ts : List Entry)
-    → 0 < p → ArePivots p columns inputs own pivots → m ≡ columns → row ≡ row_at rows l.number
+    → 0 < p → ArePivots p columns inputs own pivots → m ≡ columns → row ≡ shown_row_at rows l.number
     → es ≡ lane_left j left → ts ≡ taken_of p l j taken
     → MatchOption rest (es ≡ []) (IsLeftRow p m inputs (rows ++ own) row es ts)
     → IsOnItsWay p limit columns columns rows own pivots known left numbers taken j l
-    → IsRowRestOrGone p columns inputs rows own known (row_at rows l.number) rest
+    → IsRowRestOrGone p columns inputs rows own known (shown_row_at rows l.number) rest
 way_left_over p limit columns inputs rows own pivots known left numbers taken j l rest m row es ts pos h em er ee et e w =
     way_rest p limit columns inputs rows own pivots known left numbers taken j l rest pos h
     (subst₂ (λ k r. MatchOption rest (lane_left j left ≡ []) (IsLeftRow p k inputs (rows ++ own) r (lane_left j left) (taken_of p l j taken))) em er
@@ -323,7 +323,7 @@ way_left_over p limit columns inputs rows own pivots known left numbers taken j 
 -- one row more
 pub rests_push :
     (p columns inputs : ℕ) (rows own : List RowShown) (known : List Told) (lost : List Lost) (rests : List (Option RowShown)) (l : Lost) (r : Option RowShown)
-    → IsRowRestOrGone p columns inputs rows own known (row_at rows l.number) r → AreRests p columns inputs rows own known lost rests
+    → IsRowRestOrGone p columns inputs rows own known (shown_row_at rows l.number) r → AreRests p columns inputs rows own known lost rests
     → AreRests p columns inputs rows own known (lost ++ l ∷ []) (rests ++ r ∷ [])
 rests_push p columns inputs rows own known [] [] l r one h = (one, tt)
 rests_push p columns inputs rows own known [] (x ∷ rests) l r one h = absurd h

@@ -14,14 +14,14 @@ use Rattle.formal_sums.specs.FormalSums.{Each, FormalSum, IsSame, Key, coefficie
 use Rattle.zp_field.specs.Moduli.{IsInverse}
 use Rattle.row_laws.proofs.RowSpans.{IsInSpan_append, IsInSpan_itself, IsInSpan_same, IsInSpan_scale}
 use Rattle.row_laws.specs.Rows.{IsInSpan}
-use Rattle.row_matrix.specs.Rows.{AreEntries, Entry, RowShown, first_column, first_residue, row_sum, source_key}
+use Rattle.row_matrix.specs.Rows.{AreEntries, Entry, RowShown, first_column, first_residue, row_sum, shown_row_at, source_key}
 use Rattle.term_lists.proofs.Scaling.{take_item}
 use Rattle.dense_reduction.proofs.Clearing.{sources_push}
 use Rattle.dense_reduction.proofs.Entries.{entries_from, entries_push}
 use Rattle.dense_reduction.proofs.Naming.{span_left}
 use Rattle.dense_reduction.specs.Dense.{AddsMultiple, AreWithin, HasRoom, IsDense, dense_sum}
-use Rattle.dense_reduction.specs.Pivots.{row_at, row_vectors}
-use Rattle.dense_reduction.specs.Underway.{AreIdle, IsCombinedDense, IsLeftRow, IsReducedRow, IsSpanned, IsRowUnderway, rescaled, sources_sum}
+use Rattle.dense_reduction.specs.Pivots.{row_vectors}
+use Rattle.dense_reduction.specs.Underway.{AreIdle, IsCombinedDense, IsLeftRow, IsReducedRow, IsSpanned, IsRowUnderway, entries_rescaled, sources_sum}
 
 -- ---- numbers, one after another
 dense_push : {n : ℕ} (key : ℕ → Key n) (j a : ℕ) (xs : List ℕ) → dense_sum key j (xs ++ a ∷ []) ≡ dense_sum key j xs ++ (key (j + length xs), a) ∷ []
@@ -73,7 +73,7 @@ collect_none {n} {p} key factor i product es numbers lt e z h =
     (collect_sum key factor i product es numbers lt e h)
 
 -- ---- what is left, made monic
-rescaled_sum : {n : ℕ} (p c : ℕ) (key : ℕ → Key n) (es : List Entry) → IsSame p (row_sum key (rescaled p c es)) (scale c (unit n) (row_sum key es))
+rescaled_sum : {n : ℕ} (p c : ℕ) (key : ℕ → Key n) (es : List Entry) → IsSame p (row_sum key (entries_rescaled p c es)) (scale c (unit n) (row_sum key es))
 rescaled_sum {n} p c key [] = IsSame_refl p []
 rescaled_sum {n} p c key (e ∷ es) = record {
   by_key = λ k.
@@ -82,12 +82,12 @@ rescaled_sum {n} p c key (e ∷ es) = record {
       (IsCongruent_of p _ _ (ap (λ x. c * e.1 * indicator k x + coefficient (scale c (unit n) (row_sum key es)) k) (sym (shift-unit (key e.0)))));
 }
 
-rescaled_entries : (p c low high : ℕ) (es : List Entry) → IsDomain p → 0 < c → c < p → AreEntries p low high es → AreEntries p low high (rescaled p c es)
+rescaled_entries : (p c low high : ℕ) (es : List Entry) → IsDomain p → 0 < c → c < p → AreEntries p low high es → AreEntries p low high (entries_rescaled p c es)
 rescaled_entries p c low high [] d pos lt h = h
 rescaled_entries p c low high (e ∷ es) d pos lt h =
     (h.0, d.nonzero c e.1 pos lt h.1 h.2, mod-lt (c * e.1) (let z : 0 < p = omega arith in z), rescaled_entries p c (e.0 + 1) high es d pos lt h.3)
 
-rescaled_first : (p c : ℕ) (es : List Entry) → first_column (rescaled p c es) ≡ first_column es
+rescaled_first : (p c : ℕ) (es : List Entry) → first_column (entries_rescaled p c es) ≡ first_column es
 rescaled_first p c [] = refl
 rescaled_first p c (e ∷ es) = refl
 
@@ -102,7 +102,7 @@ inverse_nonzero p a (suc b) one h = omega arith
 pub left_row_of :
     (p columns inputs a inverse : ℕ) (rows : List RowShown) (start : RowShown) (left taken sources' : List Entry) (row : RowShown)
     → IsDomain p → AreEntries p 0 columns left → 0 < length left → a ≡ first_residue left → IsInverse p a inverse
-    → row.entries ≡ rescaled p inverse left → row.sources ≡ sources' → AreEntries p 0 inputs sources'
+    → row.entries ≡ entries_rescaled p inverse left → row.sources ≡ sources' → AreEntries p 0 inputs sources'
     → ((n : ℕ) (key : ℕ → Key n) → IsSame p (row_sum key sources') (scale inverse (unit n) (sources_sum key rows start taken)))
     → IsLeftRow p columns inputs rows start left taken row
 left_row_of p columns inputs a inverse rows start left taken sources' row d es some first inv er sr ss sum = record {
@@ -120,7 +120,7 @@ left_row_of p columns inputs a inverse rows start left taken sources' row d es s
   combination = λ n key. IsSame_trans (IsSame_of p _ _ (ap (row_sum key) sr)) (sum n key);
 }
   where
-    one : (left : List Entry) → 0 < length left → a ≡ first_residue left → first_residue (rescaled p inverse left) ≡ 1
+    one : (left : List Entry) → 0 < length left → a ≡ first_residue left → first_residue (entries_rescaled p inverse left) ≡ 1
     one [] s f = absurd (omega arith)
     one (e ∷ es) s f = ap (λ x. (inverse * x) % p) (sym f) ∙ ap (λ x. x % p) (mul_comm inverse a) ∙ inv.one
 
@@ -328,7 +328,7 @@ sources_start {n} {p} key rows row inputs zeros numbers e h =
 -- those of one more row
 pub sources_more :
     {n p : ℕ} (key : ℕ → Key n) (rows : List RowShown) (row : RowShown) (taken : List Entry) (i : ℕ) (t : Entry) (r : RowShown) (numbers numbers' : List ℕ)
-    → i < length taken → t ≡ get_or taken i t → r ≡ row_at rows t.0
+    → i < length taken → t ≡ get_or taken i t → r ≡ shown_row_at rows t.0
     → AddsMultiple p t.1 r.sources numbers numbers'
     → IsSame p (dense_sum key 0 numbers) (sources_sum key rows row (take i taken))
     → IsSame p (dense_sum key 0 numbers') (sources_sum key rows row (take (i + 1) taken))

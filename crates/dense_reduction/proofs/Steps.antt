@@ -12,12 +12,12 @@ use Rattle.term_lists.proofs.Scaling.{Each_at}
 use Rattle.pivot_table.specs.Law.{NamesRowOf, entry}
 use Rattle.pivot_table.specs.declared.law.Entry.{Entry as Told}
 use Rattle.row_laws.specs.Rows.{IsInSpan}
-use Rattle.row_matrix.specs.Rows.{Entry, IsRow, RowShown, first_column, row_sum, source_key}
+use Rattle.row_matrix.specs.Rows.{Entry, IsRow, RowShown, first_column, no_row, row_sum, shown_row_at, source_key}
 use Rattle.dense_reduction.proofs.Clearing.{IsPivot, combined_more, pivot_row, reduced_more, reduced_same}
 use Rattle.dense_reduction.proofs.Naming.{follows_same, named_span, span_at, span_left, span_right, told_before, told_last}
 use Rattle.dense_reduction.proofs.Reducing.{done_combined, done_inside, done_nothing, done_outside, start_sum}
 use Rattle.dense_reduction.specs.Dense.{AddsMultiple, dense_sum}
-use Rattle.dense_reduction.specs.Pivots.{ArePivots, lead_column, no_row, row_at, row_vectors}
+use Rattle.dense_reduction.specs.Pivots.{ArePivots, lead_column, row_vectors}
 use Rattle.dense_reduction.specs.Reductions.{IsPivotFor, IsReducedSoFar, least_left}
 use Rattle.dense_reduction.specs.Rests.{IsGone, IsRestFrom}
 use Rattle.dense_reduction.specs.Underway.{AreRowsCombined, IsLeftRow, IsReducedTo, IsRowUnderway, sources_sum}
@@ -29,11 +29,11 @@ pub pivot_told :
     (p column number : ℕ) (rows own : List RowShown) (told : List Told)
     → IsTold rows told column number → IsPivotFor p rows own told column number
 pivot_told p column number rows own told h =
-    let at : row_at (rows ++ own) number ≡ row_at rows number = get_or_append_left rows own no_row number h.known in
+    let at : shown_row_at (rows ++ own) number ≡ shown_row_at rows number = get_or_append_left rows own no_row number h.known in
     record {
       known = omega (arith, length-append rows own, h.known);
       lead = ap (λ (r : RowShown). first_column r.entries) at ∙ h.lead;
-      spanned = λ words a n key. span_left key (named rows words) own (row_sum key (row_at (rows ++ own) number).entries)
+      spanned = λ words a n key. span_left key (named rows words) own (row_sum key (shown_row_at (rows ++ own) number).entries)
           (subst (λ (r : RowShown). IsInSpan p (row_vectors key (named rows words)) (row_sum key r.entries)) (sym at) (named_span key rows words column number (h.named words a)));
     }
 
@@ -64,20 +64,20 @@ pivot_own p columns inputs column at number rows own pivots told h lt e some is 
     let k = get_or pivots column 0 - 1 in
     let there = h.named column lt (omega (arith, e, some)) in
     let behind : number ≡ length rows + k = omega (arith, is, e, some) in
-    let same : row_at (rows ++ own) number ≡ row_at own k = ap (row_at (rows ++ own)) behind ∙ get_or-append-add rows own k no_row in
+    let same : shown_row_at (rows ++ own) number ≡ shown_row_at own k = ap (shown_row_at (rows ++ own)) behind ∙ get_or-append-add rows own k no_row in
     record {
       known = omega (arith, length-append rows own, there.0, behind);
       lead = ap (λ (r : RowShown). first_column r.entries) same ∙ there.1;
       spanned = λ words a n key.
           subst (λ (r : RowShown). IsInSpan p (row_vectors key (named rows words ++ own)) (row_sum key r.entries)) (sym same)
-          (span_right key (named rows words) own (row_sum key (row_at own k).entries) (span_at key own k there.0));
+          (span_right key (named rows words) own (row_sum key (shown_row_at own k).entries) (span_at key own k there.0));
     }
 
 -- its entries begin at the column
 pub pivot_entries :
     (p column columns inputs number : ℕ) (rows own : List RowShown) (told : List Told)
     → Each (IsRow p columns inputs) rows → Each (IsRow p columns inputs) own → IsPivotFor p rows own told column number
-    → IsPivot p column columns inputs (rows ++ own) (row_at (rows ++ own) number)
+    → IsPivot p column columns inputs (rows ++ own) (shown_row_at (rows ++ own) number)
 pivot_entries p column columns inputs number rows own told good more h =
     pivot_row p column columns inputs (rows ++ own) number (Each_append (IsRow p columns inputs) rows own good more) h.known h.lead
 
@@ -113,7 +113,7 @@ pub reduced_pivot :
     (p column number factor residue : ℕ) (rows own : List RowShown) (old new : List Told) (row : RowShown)
     (v v' : (n : ℕ) → (ℕ → Key n) → FormalSum n) (taken taken' : List Entry)
     → 0 < p → IsToldAfter old new → IsPivotFor p rows own new column number → IsCongruent p (factor + residue) 0 → taken' ≡ taken ++ (number, factor) ∷ []
-    → ((n : ℕ) (key : ℕ → Key n) → IsSame p (v' n key) (v n key ++ scale factor (unit n) (row_sum key (row_at (rows ++ own) number).entries)))
+    → ((n : ℕ) (key : ℕ → Key n) → IsSame p (v' n key) (v n key ++ scale factor (unit n) (row_sum key (shown_row_at (rows ++ own) number).entries)))
     → IsReducedWith p rows own old row v taken → IsReducedWith p rows own new row v' taken'
 reduced_pivot p column number factor residue rows own old new row v v' taken taken' pos f pivot cancels more added h = record {
   inside = λ words a n key. reduced_more p (row_vectors key (named rows words ++ own)) (row_sum key row.entries) (v n key) (v' n key) (row_sum key P.entries) factor residue (pivot.spanned words a n key) cancels (added n key) (h.inside words (told_before words old new f a) n key);
@@ -125,7 +125,7 @@ reduced_pivot p column number factor residue rows own old new row v v' taken tak
 }
   where
     P : RowShown
-    P = row_at (rows ++ own) number
+    P = shown_row_at (rows ++ own) number
 
 so_far :
     (p column : ℕ) (rows own : List RowShown) (told : List Told) (row : RowShown) (left : List Entry) (numbers : List ℕ) (taken : List Entry)
@@ -153,7 +153,7 @@ pub reduced_added :
     → 0 < p → IsToldAfter old new → IsPivotFor p rows own new column number → IsCongruent p (factor + residue) 0
     → left' ≡ left → taken' ≡ taken ++ (number, factor) ∷ []
     → ((n : ℕ) (key : ℕ → Key n)
-    → IsSame p (row_sum key left ++ dense_sum key 0 numbers') ((row_sum key left ++ dense_sum key 0 numbers) ++ scale factor (unit n) (row_sum key (row_at (rows ++ own) number).entries)))
+    → IsSame p (row_sum key left ++ dense_sum key 0 numbers') ((row_sum key left ++ dense_sum key 0 numbers) ++ scale factor (unit n) (row_sum key (shown_row_at (rows ++ own) number).entries)))
     → IsReducedSoFar p low rows own old row left numbers taken → IsReducedSoFar p low rows own new row left' numbers' taken'
 reduced_added p low column number factor residue rows own old new row left left' numbers numbers' taken taken' pos f pivot cancels e more added h =
     let r = reduced_pivot p column number factor residue rows own old new row (λ n key. row_sum key left ++ dense_sum key 0 numbers) (λ n key. row_sum key left ++ dense_sum key 0 numbers') taken taken' pos f pivot cancels more added (so_far p low rows own old row left numbers taken h) in
@@ -189,7 +189,7 @@ start_vector {n} {p} key c columns factor es fs tail tail' zeros numbers numbers
 pub first_cleared :
     (p c columns number factor : ℕ) (rows own : List RowShown) (told : List Told) (row : RowShown) (tail' : List Entry)
     (zeros numbers numbers' : List ℕ) (left taken : List Entry)
-    → 0 < p → IsPivotFor p rows own told c number → row.entries ≡ (c, 1) ∷ drop 1 row.entries → (row_at (rows ++ own) number).entries ≡ (c, 1) ∷ tail'
+    → 0 < p → IsPivotFor p rows own told c number → row.entries ≡ (c, 1) ∷ drop 1 row.entries → (shown_row_at (rows ++ own) number).entries ≡ (c, 1) ∷ tail'
     → zeros ≡ replicate columns 0 → AddsMultiple p 1 (drop 1 row.entries) zeros numbers → AddsMultiple p factor tail' numbers numbers'
     → IsCongruent p (factor + 1) 0 → left ≡ [] → taken ≡ (number, factor) ∷ []
     → IsReducedSoFar p (c + 1) rows own told row left numbers' taken
@@ -197,7 +197,7 @@ first_cleared p c columns number factor rows own told row tail' zeros numbers nu
     let tail = drop 1 row.entries in
     let r = reduced_pivot p c number factor 1 rows own told told row (λ n key. row_sum key row.entries) (λ n key. dense_sum key 0 numbers') [] taken
     pos (follows_same told) is cancels one
-    (λ n key. start_vector key c columns factor row.entries (row_at (rows ++ own) number).entries tail tail' zeros numbers numbers' e e' z a a' cancels)
+    (λ n key. start_vector key c columns factor row.entries (shown_row_at (rows ++ own) number).entries tail tail' zeros numbers numbers' e e' z a a' cancels)
     (reduced_start p rows own told row) in
     subst (λ es. IsReducedSoFar p (c + 1) rows own told row es numbers' taken) (sym none)
     record { above = tt; inside = r.inside; outside = r.outside; combined = r.combined }

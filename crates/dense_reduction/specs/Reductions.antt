@@ -3,8 +3,8 @@ use Rattle.std.specs.Prelude.{List, MatchOption, None, Option, Some, get_or, len
 use Rattle.formal_sums.specs.Combinations.{combination}
 use Rattle.formal_sums.specs.FormalSums.{Each, FormalSum, IsSame, Key}
 use Rattle.pivot_table.specs.declared.law.Entry.{Entry as Told}
-use Rattle.row_matrix.specs.Rows.{Entry, RowShown, first_column, row_sum, source_key}
-use Rattle.dense_reduction.specs.Pivots.{lead_column, row_at}
+use Rattle.row_matrix.specs.Rows.{Entry, RowShown, first_column, row_sum, shown_row_at, source_key}
+use Rattle.dense_reduction.specs.Pivots.{lead_column}
 use Rattle.dense_reduction.specs.Underway.{AreRowsCombined, IsCombinedDense, IsReducedRow, IsSpanned}
 use Rattle.dense_reduction.specs.Words.{AreAsTold, named}
 
@@ -13,7 +13,7 @@ use Rattle.dense_reduction.specs.Words.{AreAsTold, named}
 pub record IsPivotFor (p : ℕ) (rows own : List RowShown) (told : List Told) (column number : ℕ) : Type 0 where
   pub known : number < length (rows ++ own)
   pub lead : lead_column (rows ++ own) number ≡ column
-  pub spanned : (words : List (Option ℕ)) → AreAsTold words told → IsSpanned p (named rows words ++ own) (row_at (rows ++ own) number)
+  pub spanned : (words : List (Option ℕ)) → AreAsTold words told → IsSpanned p (named rows words ++ own) (shown_row_at (rows ++ own) number)
 
 -- the column has this pivot, or none where none of the own rows is its pivot
 abbrev pub HasPivot : ℕ → List RowShown → List RowShown → List ℕ → List Told → ℕ → Option ℕ → Type 0

@@ -2,10 +2,10 @@
 use Rattle.std.specs.Prelude.{List, None, Option, Some, [], cond, get_or, length, map, nat_eq, ⊤, ℕ, ◌+◌, ◌++◌, ◌-◌, ◌<◌, ◌∷◌, ◌≡◌, ◌≤◌}
 use Rattle.residues.specs.Residues.{IsCongruent}
 use Rattle.pivot_table.specs.declared.law.Entry.{Entry as Told}
-use Rattle.row_matrix.specs.Rows.{Entry, RowShown}
+use Rattle.row_matrix.specs.Rows.{Entry, RowShown, shown_row_at}
 use Rattle.dense_reduction.specs.Dense.{AddsMultiple}
 use Rattle.dense_reduction.specs.Eights.{lane}
-use Rattle.dense_reduction.specs.Pivots.{lead_column, row_at}
+use Rattle.dense_reduction.specs.Pivots.{lead_column}
 use Rattle.dense_reduction.specs.Reductions.{IsReducedSoFar}
 use Rattle.dense_reduction.specs.Rests.{IsGone, IsRowLeft}
 use Rattle.dense_reduction.specs.Underway.{IsRowUnderway}
@@ -37,7 +37,7 @@ pub record IsOnItsWay
   pub under :
       IsRowUnderway p limit c columns (length (rows ++ own)) pivots (lane_left j left) (lane j numbers) ((l.winner, p - 1) ∷ lane_taken j taken)
   pub reduced :
-      IsReducedSoFar p (lead_column rows l.number + 1) rows own told (row_at rows l.number) (lane_left j left) (lane j numbers)
+      IsReducedSoFar p (lead_column rows l.number + 1) rows own told (shown_row_at rows l.number) (lane_left j left) (lane j numbers)
       ((l.winner, p - 1) ∷ lane_taken j taken)
   pub behind : (i : ℕ) → i ≤ lead_column rows l.number → get_or (lane j numbers) i 0 ≡ 0
 
@@ -61,4 +61,4 @@ AreRests p columns inputs rows own told [] [] = ⊤
 AreRests p columns inputs rows own told [] (r ∷ rests) = ⊥
 AreRests p columns inputs rows own told (l ∷ lost) [] = ⊥
 AreRests p columns inputs rows own told (l ∷ lost) (r ∷ rests) =
-    IsRowRestOrGone p columns inputs rows own told (row_at rows l.number) r × AreRests p columns inputs rows own told lost rests
+    IsRowRestOrGone p columns inputs rows own told (shown_row_at rows l.number) r × AreRests p columns inputs rows own told lost rests

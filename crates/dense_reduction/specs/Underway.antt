@@ -5,9 +5,9 @@ use Rattle.monomials.specs.Exponents.{unit}
 use Rattle.formal_sums.specs.Combinations.{combination}
 use Rattle.formal_sums.specs.FormalSums.{Each, FormalSum, IsSame, Key, scale}
 use Rattle.row_laws.specs.Rows.{IsInSpan}
-use Rattle.row_matrix.specs.Rows.{AreEntries, Entry, IsRow, RowShown, first_column, row_sum, source_key}
+use Rattle.row_matrix.specs.Rows.{AreEntries, Entry, IsRow, RowShown, first_column, row_sum, shown_row_at, source_key}
 use Rattle.dense_reduction.specs.Dense.{AreWithin, HasRoom, IsDense, dense_sum}
-use Rattle.dense_reduction.specs.Pivots.{row_at, row_vectors}
+use Rattle.dense_reduction.specs.Pivots.{row_vectors}
 
 -- v is what is left and a vector in the span of the rows
 pub record IsReducedTo {n : ℕ} (p : ℕ) (rows : List (FormalSum n)) (v left : FormalSum n) : Type 0 where
@@ -18,7 +18,7 @@ pub record IsReducedTo {n : ℕ} (p : ℕ) (rows : List (FormalSum n)) (v left :
 -- the sources of rows, each `factor` times, where these are numbers of rows and factors
 abbrev pub taken_sum : {n : ℕ} → (ℕ → Key n) → List RowShown → List Entry → FormalSum n
 taken_sum key rows [] = []
-taken_sum {n} key rows (t ∷ taken) = scale t.1 (unit n) (row_sum key (row_at rows t.0).sources) ++ taken_sum key rows taken
+taken_sum {n} key rows (t ∷ taken) = scale t.1 (unit n) (row_sum key (shown_row_at rows t.0).sources) ++ taken_sum key rows taken
 
 -- the sources of a row to which these rows were added
 abbrev pub sources_sum : {n : ℕ} → (ℕ → Key n) → List RowShown → RowShown → List Entry → FormalSum n
@@ -51,8 +51,8 @@ abbrev pub AreRowsCombined : {n : ℕ} → ℕ → List (FormalSum n) → (ℕ �
 AreRowsCombined {n} p F key rows = Each (λ r. IsSame p (combination F (row_sum (source_key n) r.sources)) (row_sum key r.entries)) rows
 
 -- the entries with each residue c times itself
-abbrev pub rescaled : ℕ → ℕ → List Entry → List Entry
-rescaled p c entries = map (λ e. (e.0, (c * e.1) % p)) entries
+abbrev pub entries_rescaled : ℕ → ℕ → List Entry → List Entry
+entries_rescaled p c entries = map (λ e. (e.0, (c * e.1) % p)) entries
 
 -- r is a monic multiple of what is left, and its sources are the same multiple of those of the row and of what was added
 pub record IsLeftRow (p columns inputs : ℕ) (rows : List RowShown) (row : RowShown) (left taken : List Entry) (r : RowShown) : Type 0 where

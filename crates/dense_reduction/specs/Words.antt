@@ -2,8 +2,8 @@
 use Rattle.std.specs.Prelude.{All, List, None, Option, Some, [], length, map, slice_get, ℕ, ◌+◌, ◌++◌, ◌<◌, ◌∷◌, ◌≡◌}
 use Rattle.formal_sums.specs.FormalSums.{Each}
 use Rattle.pivot_table.specs.declared.law.Entry.{Entry as Told}
-use Rattle.row_matrix.specs.Rows.{IsRow, RowShown, first_column}
-use Rattle.dense_reduction.specs.Pivots.{lead_column, row_at}
+use Rattle.row_matrix.specs.Rows.{IsRow, RowShown, first_column, shown_row_at}
+use Rattle.dense_reduction.specs.Pivots.{lead_column}
 
 -- the first column of each row
 abbrev pub row_leads_of : List RowShown → List ℕ
@@ -13,7 +13,7 @@ row_leads_of rows = map (λ r. first_column r.entries) rows
 abbrev pub named : List RowShown → List (Option ℕ) → List RowShown
 named rows [] = []
 named rows (None ∷ words) = named rows words
-named rows (Some k ∷ words) = row_at rows k ∷ named rows words
+named rows (Some k ∷ words) = shown_row_at rows k ∷ named rows words
 
 -- the column's word names this row
 abbrev pub WordNames : List (Option ℕ) → ℕ → ℕ → Type 0

@@ -5,12 +5,12 @@ ghost use Rattle.monomials.specs.Exponents.{unit};
 ghost use Rattle.formal_sums.specs.FormalSums.{Each, IsSame, Key as KeyOf, scale};
 ghost use Rattle.pivot_table.specs.Law.{IsSeatOf, told};
 ghost use Rattle.pivot_table.specs.declared.law.Entry.{Entry as Told};
-ghost use Rattle.row_matrix.specs.Rows.{AreEntries, IsRow, RowShown, first_column, row_sum};
+ghost use Rattle.row_matrix.specs.Rows.{AreEntries, IsRow, RowShown, first_column, row_sum, shown_row_at};
 ghost use Rattle.dense_reduction.specs.Dense.{AddsMultiple, AreWithin, HasRoom, IsDense, dense_sum};
-ghost use Rattle.dense_reduction.specs.Pivots.{ArePivots, row_at};
+ghost use Rattle.dense_reduction.specs.Pivots.{ArePivots};
 ghost use Rattle.dense_reduction.specs.Reductions.{HasPivot, IsReducedSoFar, least_left};
 ghost use Rattle.dense_reduction.specs.Rests.{IsGone, IsRestFrom, rows_left};
-ghost use Rattle.dense_reduction.specs.Underway.{AreIdle, IsLeftRow, IsRowUnderway, rescaled, sources_sum};
+ghost use Rattle.dense_reduction.specs.Underway.{AreIdle, IsLeftRow, IsRowUnderway, entries_rescaled, sources_sum};
 ghost use Rattle.dense_reduction.specs.Words.{AreRowsReady, IsToldAfter};
 
 use crate::accumulating::{add_multiple, first_limit};
@@ -82,7 +82,7 @@ pub fn room_for_one(alloc: Global, columns: usize) -> Result<Work, NoMemory>
 /// The row with this number: the pass's rows come first, then the helper's own.
 pub(crate) fn row_numbered<'a>(rows: &'a [Row], left: &'a [Left], number: usize) -> &'a Row
     requires { number < length rows.now + length left.now }
-    ensures { result.now ≡ row_at (rows.now ++ rows_left left.now) number }
+    ensures { result.now ≡ shown_row_at (rows.now ++ rows_left left.now) number }
 {
     if number < rows.len() {
         &rows[number]
@@ -163,7 +163,7 @@ fn add_pivot(
     requires room { HasRoom shared.modulus.now.value work.old.limit }
     requires small { IsDense work.old.limit work.old.numbers.items }
     ensures adds { AddsMultiple shared.entry.modulus.now.value factor
-        (drop 1 (row_at (shared.entry.rows.now ++ rows_left own.now.left.items) pivot).entries) work.old.numbers.items work.new.numbers.items }
+        (drop 1 (shown_row_at (shared.entry.rows.now ++ rows_left own.now.left.items) pivot).entries) work.old.numbers.items work.new.numbers.items }
     ensures room { HasRoom shared.entry.modulus.now.value work.new.limit }
     ensures small { IsDense work.new.limit work.new.numbers.items }
     ensures left { work.new.left.items ≡ work.old.left.items }
@@ -379,7 +379,7 @@ fn rescaled_entries(
 ) -> Result<Vec<(u32, u32)>, NoMemory>
     requires factor { c < modulus.now.value }
     requires residues { Each (λ e. e.1 < modulus.now.value) entries.now }
-    ensures { IfOk result (λ es. es.items ≡ rescaled modulus.now.value c entries.now) }
+    ensures { IfOk result (λ es. es.items ≡ entries_rescaled modulus.now.value c entries.now) }
 {
     let mut out = Vec::with_capacity(alloc, entries.len())?;
     for entry in entries {

@@ -3,11 +3,11 @@ ghost use Rattle.std.specs.Prelude.{◌≡◌, ◌<◌, ◌≤◌, ◌+◌, ◌+
 ghost use Rattle.formal_sums.specs.FormalSums.{Each};
 ghost use Rattle.pivot_table.specs.Law.{IsSeatOf, told};
 ghost use Rattle.pivot_table.specs.declared.law.Entry.{Entry as Told};
-ghost use Rattle.row_matrix.specs.Rows.{IsRow, RowShown};
+ghost use Rattle.row_matrix.specs.Rows.{IsRow, RowShown, shown_row_at};
 ghost use Rattle.dense_reduction.specs.Dense.{HasRoom};
 ghost use Rattle.dense_reduction.specs.Eights.{AreAllIdle, AreCleared, AreDense, lane};
 ghost use Rattle.dense_reduction.specs.LostRows.{IsLost};
-ghost use Rattle.dense_reduction.specs.Pivots.{ArePivots, lead_column, row_at};
+ghost use Rattle.dense_reduction.specs.Pivots.{ArePivots, lead_column};
 ghost use Rattle.dense_reduction.specs.Rests.{rows_left};
 ghost use Rattle.dense_reduction.specs.Together.{AreOnTheirWay, AreRests, IsAdded, IsOnItsWay, IsRowRestOrGone, lane_left, lane_taken};
 ghost use Rattle.dense_reduction.specs.Words.{AreRowsReady, IsToldAfter};
@@ -120,7 +120,7 @@ fn add_pivot_to_all(
     requires small { AreDense together.old.limit together.old.numbers.items }
     ensures added { OnOk result ((factors : List ℕ) × (together.new.taken.items ≡ together.old.taken.items ++ (pivot, factors) ∷ [])
         × ((j : ℕ) → j < 8 → IsAdded shared.entry.modulus.now.value
-        (drop 1 (row_at (shared.entry.rows.now ++ rows_left own.now.left.items) pivot).entries) (get_or residues.now j 0) (get_or factors j 0)
+        (drop 1 (shown_row_at (shared.entry.rows.now ++ rows_left own.now.left.items) pivot).entries) (get_or residues.now j 0) (get_or factors j 0)
         (lane j together.old.numbers.items) (lane j together.new.numbers.items))) }
     ensures count { length together.new.numbers.items ≡ length together.old.numbers.items }
     ensures room { HasRoom shared.entry.modulus.now.value together.new.limit }
@@ -273,7 +273,7 @@ fn rest_of(
         (length together.now.numbers.items) (length together.now.numbers.items) shared.entry.rows.now (rows_left own.now.left.items) own.now.pivots.items
         known together.now.left.items together.now.numbers.items together.now.taken.items j lost
         → IfOk result (IsRowRestOrGone shared.entry.modulus.now.value (length together.now.numbers.items) shared.entry.inputs
-        shared.entry.rows.now (rows_left own.now.left.items) known (row_at shared.entry.rows.now lost.number)) }
+        shared.entry.rows.now (rows_left own.now.left.items) known (shown_row_at shared.entry.rows.now lost.number)) }
 {
     let modulus = shared.modulus;
     modulus.domain();

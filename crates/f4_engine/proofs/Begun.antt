@@ -17,7 +17,7 @@ use Rattle.basis_core.specs.Shown.{Shown}
 use Rattle.basis_core.specs.Stops.{stop_of}
 use Rattle.basis_core.specs.Views.{history_of, run_of, state_of, variables_of}
 use Rattle.ruled_lock.specs.Events.{calls_by}
-use Rattle.basis_lock.specs.Acts.{Act, Asked, HandedIn, Stopped, Took, actor, has_ended, has_stop}
+use Rattle.basis_lock.specs.Acts.{Act, Asked, HandedIn, Stopped, Took, actor, has_ended_by_acts, has_stop}
 use Rattle.basis_core.specs.Logs.{by, log, notes_from, number_at_beginning}
 use Rattle.basis_lock.proofs.Acting.{acts_of_events, runs_ended, runs_stop_kept}
 use Rattle.basis_lock.proofs.May.{own_same}
@@ -51,7 +51,7 @@ begins_new ring rank generators budget workers update (Err e) some run begins = 
 pub all_ended : (s : Shown) → Replays (run_of (variables_of s) s) (state_of (variables_of s) s) → EachDone s.workers (log s) → HaveAllEnded (run_of (variables_of s) s) (state_of (variables_of s) s)
 all_ended s (first, begins, runs) done w known =
     let n : ℕ = variables_of s in
-    runs_ended (run_of n s) w first (state_of n s) (state_of n s).history runs (ap has_ended (sym (own_same n w s)) ∙ (done w known).ended)
+    runs_ended (run_of n s) w first (state_of n s) (state_of n s).history runs (ap has_ended_by_acts (sym (own_same n w s)) ∙ (done w known).ended)
 
 -- a Stop of one worker is one of all
 stop_among : (w : ℕ) (acts : List Act) → has_stop (calls_by actor w acts) ≡ true → has_stop acts ≡ true

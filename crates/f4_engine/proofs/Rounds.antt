@@ -19,7 +19,7 @@ use Rattle.basis_core.specs.Stops.{IsTrailBy}
 use Rattle.s_vectors.specs.Trails.{JobStops}
 use Rattle.ruled_lock.specs.declared.law.View.{View}
 use Rattle.ruled_lock.specs.Plays.{Holds}
-use Rattle.basis_lock.specs.Acts.{Act, Asked, HandedIn, Stopped, Took, act_of, acts_of, has_ended, has_stop, has_take, held_after, took_after}
+use Rattle.basis_lock.specs.Acts.{Act, Asked, HandedIn, Stopped, Took, act_of, acts_of, has_ended_by_acts, has_stop, has_take, held_after, took_after}
 use Rattle.basis_lock.specs.Calls.{Finishes, HandsIn, HasGivenSeen, IsHold, IsWorkStopSeen, MayFinish, MayHandIn, ReportsStop, TakesJob, own}
 use Rattle.basis_core.specs.Logs.{Base, End, Noted, Put, Stop, Take, by, log, members_after}
 use Rattle.basis_core.proofs.Logging.{members_told, take_whole}
@@ -45,7 +45,7 @@ held-more out (HandedIn w ∷ xs) a = held-more [] xs a
 held-more out (Asked w ending ∷ xs) a = held-more out xs a
 held-more out (Stopped w ∷ xs) a = held-more out xs a
 
-ended-more : (xs : List Act) (a : Act) → has_ended xs ≡ false → has_ended (xs ++ (a ∷ [])) ≡ has_ended (a ∷ [])
+ended-more : (xs : List Act) (a : Act) → has_ended_by_acts xs ≡ false → has_ended_by_acts (xs ++ (a ∷ [])) ≡ has_ended_by_acts (a ∷ [])
 ended-more [] a h = refl
 ended-more (Took w job ∷ xs) a h = ended-more xs a h
 ended-more (HandedIn w ∷ xs) a h = ended-more xs a h
@@ -125,7 +125,7 @@ module _ (b : Base) (v w : View Noted Base) (most : ℕ) (job : JobShown) (worki
     same_seat b v e w h.before h.after h.hold,
     record {
       known = known_after b v e w h.before h.after h.hold working.known;
-      works = ap has_ended acts ∙ ended-more (own v) (Took v.worker (pairs_of job.pairs)) working.works;
+      works = ap has_ended_by_acts acts ∙ ended-more (own v) (Took v.worker (pairs_of job.pairs)) working.works;
       unstopped = ap has_stop acts ∙ stop-more (own v) (Took v.worker (pairs_of job.pairs)) working.unstopped;
       took = ap has_take acts ∙ take-here (own v) v.worker (pairs_of job.pairs);
       worker = h.answers.1 ∙ sym h.hold.makes.4.0;
@@ -150,7 +150,7 @@ module _ (b : Base) (v w : View Noted Base) (most : ℕ) (answer : Taken) (worki
     record {
       working = record {
         known = known_after b v e' w h.before h.after h.hold working.known;
-        works = ap has_ended acts' ∙ ended-more (own v) (Took v.worker []) working.works;
+        works = ap has_ended_by_acts acts' ∙ ended-more (own v) (Took v.worker []) working.works;
         free = ap (held_after []) acts' ∙ held-more [] (own v) (Took v.worker []) ∙ ap (λ l. l ++ []) working.free;
         unstopped = ap has_stop acts' ∙ stop-more (own v) (Took v.worker []) working.unstopped;
       };
@@ -178,7 +178,7 @@ hands_it_in b v w job o has h =
       same_seat b v e w h.before h.after h.hold,
       record {
         known = known_after b v e w h.before h.after h.hold has.known;
-        works = ap has_ended acts ∙ ended-more (own v) (HandedIn v.worker) has.works;
+        works = ap has_ended_by_acts acts ∙ ended-more (own v) (HandedIn v.worker) has.works;
         free = ap (held_after []) acts ∙ held-more [] (own v) (HandedIn v.worker);
         unstopped = ap has_stop acts ∙ stop-more (own v) (HandedIn v.worker) has.unstopped;
       },
@@ -194,7 +194,7 @@ ends_done b v w has h =
     let acts : own w ≡ own v ++ (Asked v.worker plain.Ended ∷ []) = own_after b v e w h.before h.after h.hold in (
       same_seat b v e w h.before h.after h.hold,
       record {
-        ended = ap has_ended acts ∙ ended-more (own v) (Asked v.worker plain.Ended) has.working.works;
+        ended = ap has_ended_by_acts acts ∙ ended-more (own v) (Asked v.worker plain.Ended) has.working.works;
         took = inl (ap has_take acts ∙ take-stays (own v) (Asked v.worker plain.Ended) has.has_taken);
       },
     )
@@ -206,7 +206,7 @@ ends_with_more b v w has h =
       same_seat b v e w h.before h.after h.hold,
       record {
         known = known_after b v e w h.before h.after h.hold has.working.known;
-        works = ap has_ended acts ∙ ended-more (own v) (Asked v.worker plain.MoreWork) has.working.works;
+        works = ap has_ended_by_acts acts ∙ ended-more (own v) (Asked v.worker plain.MoreWork) has.working.works;
         free = ap (held_after []) acts ∙ held-more [] (own v) (Asked v.worker plain.MoreWork) ∙ has.working.free;
         unstopped = ap has_stop acts ∙ stop-more (own v) (Asked v.worker plain.MoreWork) has.working.unstopped;
       },
@@ -215,12 +215,12 @@ ends_with_more b v w has h =
 -- after a Stop of its own a worker may end, and then is done
 pub may_finish_stopped :
     (b : Base) (v w : View Noted Base) (reason : StopReason) (stop : WorkStop) → MayGiveUp b v stop → ReportsStop b v reason w
-    → MayFinish b w × (has_stop (acts_of w.seen) ≡ true) × (has_ended (own w) ≡ false) × (has_stop (own w) ≡ true) × IsSameWorker v w
+    → MayFinish b w × (has_stop (acts_of w.seen) ≡ true) × (has_ended_by_acts (own w) ≡ false) × (has_stop (own w) ≡ true) × IsSameWorker v w
 may_finish_stopped b v w reason stop may h =
     let e : Noted = Stop v.worker in
     let acts : own w ≡ own v ++ (Stopped v.worker ∷ []) = own_after b v e w h.before h.after h.hold in
     let seen : has_stop (acts_of w.seen) ≡ true = ap (λ l. has_stop (acts_of l)) (seen_after b v e w h.before h.after h.hold) ∙ stop-last (log h.before) v.worker in
-    let works : has_ended (own w) ≡ false = ap has_ended acts ∙ ended-more (own v) (Stopped v.worker) may.works in (
+    let works : has_ended_by_acts (own w) ≡ false = ap has_ended_by_acts acts ∙ ended-more (own v) (Stopped v.worker) may.works in (
       record { known = known_after b v e w h.before h.after h.hold may.known; works = works; done = inl seen },
       seen,
       works,
@@ -229,14 +229,14 @@ may_finish_stopped b v w reason stop may h =
     )
 
 pub stopped_done :
-    (b : Base) (v w : View Noted Base) → has_ended (own v) ≡ false → has_stop (own v) ≡ true → Finishes b v endings.Ended w
+    (b : Base) (v w : View Noted Base) → has_ended_by_acts (own v) ≡ false → has_stop (own v) ≡ true → Finishes b v endings.Ended w
     → IsSameWorker v w × AreDone (own w)
 stopped_done b v w works stopped h =
     let e : Noted = End v.worker plain.Ended in
     let acts : own w ≡ own v ++ (Asked v.worker plain.Ended ∷ []) = own_after b v e w h.before h.after h.hold in (
       same_seat b v e w h.before h.after h.hold,
       record {
-        ended = ap has_ended acts ∙ ended-more (own v) (Asked v.worker plain.Ended) works;
+        ended = ap has_ended_by_acts acts ∙ ended-more (own v) (Asked v.worker plain.Ended) works;
         took = inr (ap has_stop acts ∙ stop-stays (own v) (Asked v.worker plain.Ended) stopped);
       },
     )
@@ -280,7 +280,7 @@ worker_done b x u v w ended fresh same ends is =
 pub fresh_works : (b : Base) (x : ℕ) (v : View Noted Base) → IsFresh x v → x < b.workers → IsWorking b v
 fresh_works b x v fresh known = record {
   known = subst (λ k. k < b.workers) (sym fresh.number) known;
-  works = ap (λ (es : List Noted). has_ended (acts_of es)) fresh.mine;
+  works = ap (λ (es : List Noted). has_ended_by_acts (acts_of es)) fresh.mine;
   free = ap (λ (es : List Noted). held_after [] (acts_of es)) fresh.mine;
   unstopped = ap (λ (es : List Noted). has_stop (acts_of es)) fresh.mine;
 }

@@ -9,7 +9,7 @@ use native.Mathlib.Decide.{ℕ_discrete}
 use Rattle.ruled_lock.specs.declared.law.Old.{Old}
 use Rattle.ruled_lock.specs.declared.law.View.{View}
 use Rattle.ruled_lock.specs.Events.{calls_by}
-use Rattle.ruled_lock.specs.Law.{without, parted, joined, newcomer, opener, old_of}
+use Rattle.ruled_lock.specs.Law.{without, parted, joined_views, newcomer, opener, old_of}
 use Rattle.ruled_lock.specs.Plays.{AllBack, Tallied}
 use Rattle.basis_lock.specs.Acts.{acts_of}
 use Rattle.basis_core.specs.Logs.{Base, Noted, by, workers}
@@ -65,7 +65,7 @@ worked_alone n x w l is k = record {
   olds = subst (All OldIsDone) (sym k.olds) (All-nil OldIsDone);
 }
 
-pub worked_joined : (n last : ℕ) (v w : View Noted Base) → last + 1 ≡ n → AllWorkersDone last v → HasDone last w → AllWorkersDone n (joined v w)
+pub worked_joined : (n last : ℕ) (v w : View Noted Base) → last + 1 ≡ n → AllWorkersDone last v → HasDone last w → AllWorkersDone n (joined_views v w)
 worked_joined n last v w is a k =
     let number : w.worker ≡ last = k.number in
     let names : map (λ (q : Old Noted). q.worker) (v.olds ++ (old_of w ∷ w.olds)) ≡ map (λ (q : Old Noted). q.worker) v.olds ++ (w.worker ∷ map (λ (q : Old Noted). q.worker) w.olds) = map-append (λ (q : Old Noted). q.worker) v.olds (old_of w ∷ w.olds) in record {

@@ -33,8 +33,8 @@ pub record IsKeptByF4 (e : F4Shown) : Type 0 where
   pub last : IsLastRun e.pairs e.workers e.update e.last
 
 -- the engine with one run more
-abbrev pub with_run : F4Shown → F4Shown
-with_run e = record e { runs = next_count e.runs }
+abbrev pub f4_with_run : F4Shown → F4Shown
+f4_with_run e = record e { runs = next_count e.runs }
 
 -- one more run that stopped is counted, up to 2 ^ 64 - 1; all else is the same
 pub record CountsF4Stop (old new : F4Shown) : Type 0 where

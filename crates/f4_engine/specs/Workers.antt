@@ -6,21 +6,21 @@ use Rattle.basis_core.specs.Jobs.{JobShown, pairs_of}
 use Rattle.ruled_lock.specs.declared.law.Old.{Old}
 use Rattle.ruled_lock.specs.declared.law.View.{View}
 use Rattle.ruled_lock.specs.Events.{calls_by}
-use Rattle.basis_lock.specs.Acts.{Act, acts_of, has_ended, has_stop, has_take, held_after, took_after}
+use Rattle.basis_lock.specs.Acts.{Act, acts_of, has_ended_by_acts, has_stop, has_take, held_after, took_after}
 use Rattle.basis_lock.specs.Calls.{HasGivenSeen, IsWorkStopSeen, own}
 use Rattle.basis_core.specs.Logs.{Base, Noted, by, members_after}
 
 -- a worker between two rounds: it has not ended, has none out, and has not stopped the run
 pub record IsWorking (b : Base) (v : View Noted Base) : Type 0 where
   pub known : v.worker < b.workers
-  pub works : has_ended (own v) ≡ false
+  pub works : has_ended_by_acts (own v) ≡ false
   pub free : held_after [] (own v) ≡ []
   pub unstopped : has_stop (own v) ≡ false
 
 -- it has this job
 pub record HasJob (b : Base) (v : View Noted Base) (job : JobShown) : Type 0 where
   pub known : v.worker < b.workers
-  pub works : has_ended (own v) ≡ false
+  pub works : has_ended_by_acts (own v) ≡ false
   pub unstopped : has_stop (own v) ≡ false
   pub took : has_take (own v) ≡ true
   pub worker : job.worker ≡ v.worker
@@ -39,7 +39,7 @@ pub record HasNone (b : Base) (v : View Noted Base) : Type 0 where
 -- its work is not done, for this reason
 pub record MayGiveUp (b : Base) (v : View Noted Base) (stop : WorkStop) : Type 0 where
   pub known : v.worker < b.workers
-  pub works : has_ended (own v) ≡ false
+  pub works : has_ended_by_acts (own v) ≡ false
   pub unstopped : has_stop (own v) ≡ false
   pub why : IsWorkStopSeen b v.seen stop
 
@@ -49,7 +49,7 @@ IsSameWorker v w = (w.worker ≡ v.worker) × (w.olds ≡ v.olds)
 
 -- by these acts a worker has ended, after a Take or a Stop
 pub record AreDone (acts : List Act) : Type 0 where
-  pub ended : has_ended acts ≡ true
+  pub ended : has_ended_by_acts acts ≡ true
   pub took : (has_take acts ≡ true) ⊎ (has_stop acts ≡ true)
 
 -- a worker has ended, or goes on

@@ -7,7 +7,7 @@ ghost use Rattle.basis_core.specs.Members.{Shared};
 ghost use Rattle.groebner_iface.specs.Runs.{IsReducedBasisOf, StoppedRun};
 ghost use Rattle.risen_counts.specs.Counts.{next_count};
 ghost use Rattle.run_endings.specs.Stops.{IsRunBy, IsStop, OfState, RunStops, shared_on, stopped_run};
-ghost use Rattle.f4_engine.specs.Engines.{KeepsAnswered, CountsF4Stop, F4Stops, IsKeptByF4, with_run};
+ghost use Rattle.f4_engine.specs.Engines.{KeepsAnswered, CountsF4Stop, F4Stops, IsKeptByF4, f4_with_run};
 ghost use Rattle.f4_engine.specs.Runs.{IsFinished, IsWorkedByAll};
 
 use crate::runs::run;
@@ -224,7 +224,7 @@ impl F4Engine {
 
     // Counts a run.
     fn count_run(&mut self)
-        ensures { self.new ≡ with_run self.old }
+        ensures { self.new ≡ f4_with_run self.old }
     {
         self.runs = self.runs.saturating_add(1);
     }
@@ -289,8 +289,8 @@ impl F4Engine {
         requires vectors { AreVectorsOver ring.now (ring_comparison ring.now) list.now }
         requires positions { Each (HasPositions rank) list.now }
         ensures basis { IfOk result (IsReducedBasisOf ring.now rank list.now) }
-        ensures answers { OnOk result (KeepsAnswered (with_run self.old) self.new (shared_on ring.now rank list.now)) }
-        ensures stop { IfErr result (F4Stops (with_run self.old) self.new (shared_on ring.now rank list.now)) }
+        ensures answers { OnOk result (KeepsAnswered (f4_with_run self.old) self.new (shared_on ring.now rank list.now)) }
+        ensures stop { IfErr result (F4Stops (f4_with_run self.old) self.new (shared_on ring.now rank list.now)) }
         ensures run { self.new.runs ≡ next_count self.old.runs }
     {
         self.count_run();

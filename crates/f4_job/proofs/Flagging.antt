@@ -4,8 +4,8 @@ use Rattle.std.proofs.lemmas.Bool.{cases_eq}
 use Rattle.std.proofs.lemmas.List.{get_or_append_left, get_or_push, length_push}
 use Rattle.formal_sums.specs.FormalSums.{Each}
 use Rattle.term_lists.proofs.Scaling.{take_item}
-use Rattle.row_matrix.specs.Rows.{RowShown, first_column}
-use Rattle.dense_reduction.specs.Pivots.{lead_column, no_row, row_at}
+use Rattle.row_matrix.specs.Rows.{RowShown, first_column, no_row, shown_row_at}
+use Rattle.dense_reduction.specs.Pivots.{lead_column}
 use Rattle.f4_job.specs.Flags.{AreFlags, unflagged}
 
 -- ---- flags
@@ -66,35 +66,35 @@ unflagged_each P flags (r ∷ rows) h = go (unflagged_each P flags rows h.1) (ge
 
 -- the row with this number is one of the rows, without a flag
 abbrev pub IsUnflaggedRow : List Bool → List RowShown → RowShown → Type 0
-IsUnflaggedRow flags rows r = (j : ℕ) × (j < length rows) × (row_at rows j ≡ r) × (get_or flags (first_column r.entries) false ≡ false)
+IsUnflaggedRow flags rows r = (j : ℕ) × (j < length rows) × (shown_row_at rows j ≡ r) × (get_or flags (first_column r.entries) false ≡ false)
 
 pub unflagged_from : (flags : List Bool) (rows : List RowShown) (k : ℕ) → k < length (unflagged flags rows)
-    → IsUnflaggedRow flags rows (row_at (unflagged flags rows) k)
+    → IsUnflaggedRow flags rows (shown_row_at (unflagged flags rows) k)
 unflagged_from flags [] k lt = absurd (omega arith)
 unflagged_from flags (r ∷ rows) k lt = go (λ i l. unflagged_from flags rows i l) (get_or flags (first_column r.entries) false) refl k lt
   where
     shift_row : (x : RowShown) → IsUnflaggedRow flags rows x → IsUnflaggedRow flags (r ∷ rows) x
     shift_row x h = (suc h.0, omega (arith, h.1), h.2, h.3)
 
-    go : ((i : ℕ) → i < length (unflagged flags rows) → IsUnflaggedRow flags rows (row_at (unflagged flags rows) i))
+    go : ((i : ℕ) → i < length (unflagged flags rows) → IsUnflaggedRow flags rows (shown_row_at (unflagged flags rows) i))
         → (b : Bool) → get_or flags (first_column r.entries) false ≡ b → (k : ℕ) → k < length (cond b (unflagged flags rows) (r ∷ unflagged flags rows))
-        → IsUnflaggedRow flags (r ∷ rows) (row_at (cond b (unflagged flags rows) (r ∷ unflagged flags rows)) k)
-    go ih true e k l = shift_row (row_at (unflagged flags rows) k) (ih k l)
+        → IsUnflaggedRow flags (r ∷ rows) (shown_row_at (cond b (unflagged flags rows) (r ∷ unflagged flags rows)) k)
+    go ih true e k l = shift_row (shown_row_at (unflagged flags rows) k) (ih k l)
     go ih false e zero l = (0, omega arith, refl, e)
-    go ih false e (suc k) l = shift_row (row_at (unflagged flags rows) k) (ih k (omega arith))
+    go ih false e (suc k) l = shift_row (shown_row_at (unflagged flags rows) k) (ih k (omega arith))
 
 pub unflagged_all : (flags : List Bool) (rows : List RowShown) (j : ℕ) → j < length rows
-    → (get_or flags (lead_column rows j) false ≡ true) ⊎ ((k : ℕ) × (k < length (unflagged flags rows)) × (row_at (unflagged flags rows) k ≡ row_at rows j))
+    → (get_or flags (lead_column rows j) false ≡ true) ⊎ ((k : ℕ) × (k < length (unflagged flags rows)) × (shown_row_at (unflagged flags rows) k ≡ shown_row_at rows j))
 unflagged_all flags [] j lt = absurd (omega arith)
 unflagged_all flags (r ∷ rows) j lt = go (λ i l. unflagged_all flags rows i l) (get_or flags (first_column r.entries) false) refl j lt
   where
     go : ((i : ℕ) → i < length rows
         → (get_or flags (lead_column rows i) false ≡ true) ⊎
-        ((k : ℕ) × (k < length (unflagged flags rows)) × (row_at (unflagged flags rows) k ≡ row_at rows i)))
+        ((k : ℕ) × (k < length (unflagged flags rows)) × (shown_row_at (unflagged flags rows) k ≡ shown_row_at rows i)))
         → (b : Bool) → get_or flags (first_column r.entries) false ≡ b → (j : ℕ) → j < length (r ∷ rows)
         → (get_or flags (lead_column (r ∷ rows) j) false ≡ true) ⊎
         ((k : ℕ) × (k < length (cond b (unflagged flags rows) (r ∷ unflagged flags rows)))
-        × (row_at (cond b (unflagged flags rows) (r ∷ unflagged flags rows)) k ≡ row_at (r ∷ rows) j))
+        × (shown_row_at (cond b (unflagged flags rows) (r ∷ unflagged flags rows)) k ≡ shown_row_at (r ∷ rows) j))
     go ih true e zero l = inl e
     go ih false e zero l = inr (0, omega arith, refl)
     go ih true e (suc j) l = ih j (omega arith)

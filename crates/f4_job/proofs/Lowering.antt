@@ -14,14 +14,13 @@ use Rattle.bases.specs.Leads.{head_key, leads}
 use Rattle.bases.specs.Settings.{IsLawful, Setting}
 use Rattle.term_lists.specs.Vectors.{IsVector, key_of, sum_of}
 use Rattle.term_lists.specs.declared.key.Key.{Key as CodeKey}
-use Rattle.module_vectors.specs.Trails.{HasKey, KeptProduct, no_product, product_lead, kept_at}
+use Rattle.module_vectors.specs.Trails.{HasKey, KeptProduct, no_product, kept_product_lead, kept_at}
 use Rattle.pair_criteria.specs.declared.pair.Pair.{Pair as CodePair}
 use Rattle.basis_steps.specs.Divisions.{IsKeyAtMost}
 use Rattle.row_laws.proofs.NewRows.{find_row}
 use Rattle.row_laws.specs.Jobs.{IsNewRows}
 use Rattle.row_laws.specs.Rows.{row_combination}
-use Rattle.row_matrix.specs.Rows.{IsRow, MatrixShown, RowShown, column_key, vector_of, vectors_of}
-use Rattle.dense_reduction.specs.Pivots.{no_row, row_at}
+use Rattle.row_matrix.specs.Rows.{IsRow, MatrixShown, RowShown, column_key, no_row, shown_row_at, vector_of, vectors_of}
 use Rattle.row_reduce.proofs.Forms.{row_monic, row_normal}
 use Rattle.row_reduce.specs.Echelons.{IsEchelonOf}
 use Rattle.symbolic_prep.proofs.Matrices.{Each_index, contains_at}
@@ -58,12 +57,12 @@ module _ {n : ℕ} (S : Setting n) (lawful : IsLawful S) where
     IsWithin k = (x : CodePair) × Contains pairs x × IsKeyAtMost S k (key_of n x.lcm)
 
     in_product : (k l : Key n) (s : KeptProduct) → HasKey (sum_of n (get_or list s.0 [])) l → k ≡ shift (exponents_of n s.1.exponents) l
-        → IsKeyAtMost S k (product_lead n list s)
+        → IsKeyAtMost S k (kept_product_lead n list s)
     in_product k l s has e =
         let d : Descends S.compare (sum_of n (get_or list s.0 [])) =
         (item_of (IsVector n S.weights S.modulus S.compare) list s.0 (record { each = tt; descends = tt }) vectors).descends in
         let t = exponents_of n s.1.exponents in
-        subst (λ z. IsKeyAtMost S z (product_lead n list s)) (sym e)
+        subst (λ z. IsKeyAtMost S z (kept_product_lead n list s)) (sym e)
         (elim (key_at_most (sum_of n (get_or list s.0 [])) l d has) [
           | inl a ↦ inl (lawful.order.kept t l (head_key (sum_of n (get_or list s.0 []))) ∙ a)
           | inr a ↦ inr (ap (shift t) a)
@@ -71,25 +70,25 @@ module _ {n : ℕ} (S : Setting n) (lawful : IsLawful S) where
 
     step_within :
         ((i : ℕ) → i < length products → IsOfPair n list pairs (kept_at products i) ⊎ IsOfEarlier n list products i (kept_at products i))
-        → (fuel i : ℕ) → i < fuel → i < length products → IsWithin (product_lead n list (kept_at products i))
+        → (fuel i : ℕ) → i < fuel → i < length products → IsWithin (kept_product_lead n list (kept_at products i))
     step_within traced zero i low lt = absurd (omega arith)
     step_within traced (suc fuel) i low lt = go (λ j l. step_within traced fuel j (omega arith) (omega arith)) (traced i lt)
       where
-        go : ((j : ℕ) → j < i → IsWithin (product_lead n list (kept_at products j)))
+        go : ((j : ℕ) → j < i → IsWithin (kept_product_lead n list (kept_at products j)))
             → IsOfPair n list pairs (kept_at products i) ⊎ IsOfEarlier n list products i (kept_at products i)
-            → IsWithin (product_lead n list (kept_at products i))
+            → IsWithin (kept_product_lead n list (kept_at products i))
         go ih (inl o) = (o.0, o.1.0, inr o.1.1)
         go ih (inr (j, l, has)) =
             let w = ih j l in (
               w.0,
               w.1,
-              at_most_trans (product_lead n list (kept_at products i)) (product_lead n list (kept_at products j)) (key_of n w.0.lcm)
-                  (in_product (product_lead n list (kept_at products i)) has.0 (kept_at products j) has.1 has.2) w.2,
+              at_most_trans (kept_product_lead n list (kept_at products i)) (kept_product_lead n list (kept_at products j)) (key_of n w.0.lcm)
+                  (in_product (kept_product_lead n list (kept_at products i)) has.0 (kept_at products j) has.1 has.2) w.2,
             )
 
 -- the first key of a product that is not zero
 product_first : (n : ℕ) (list : List (List (CodeKey × ℕ))) (s : KeptProduct) → 0 < length (get_or list s.0 [])
-    → head_key (product_sum n list s) ≡ product_lead n list s
+    → head_key (product_sum n list s) ≡ kept_product_lead n list s
 product_first n list s some = go (get_or list s.0 []) some
   where
     go : (v : List (CodeKey × ℕ)) → 0 < length v
@@ -102,26 +101,26 @@ module _ (n : ℕ) (S : Setting n) (lawful : IsLawful S) (list : List (List (Cod
     (h : IsPrepared n S list pairs m products) (E : List RowShown) (form : IsEchelonOf S.modulus (length m.columns) m.inputs m.rows E)
     (flags : List Bool) (flagged : AreFlags m.rows flags)
     (new : IsNewRows (vectors_of n m.columns m.rows) (vectors_of n m.columns E) (vectors_of n m.columns (unflagged flags E))) where
-  at : (rows : List RowShown) (i : ℕ) → i < length rows → get_or (vectors_of n m.columns rows) i [] ≡ vector_of n m.columns (row_at rows i)
+  at : (rows : List RowShown) (i : ℕ) → i < length rows → get_or (vectors_of n m.columns rows) i [] ≡ vector_of n m.columns (shown_row_at rows i)
   at rows i lt = get_or-map (λ (r : RowShown). vector_of n m.columns r) rows i no_row [] lt
 
   size : (rows : List RowShown) → length (vectors_of n m.columns rows) ≡ length rows
   size rows = length-map rows (λ (r : RowShown). vector_of n m.columns r)
 
-  good : (i : ℕ) → i < length m.rows → IsRow S.modulus (length m.columns) m.inputs (row_at m.rows i)
+  good : (i : ℕ) → i < length m.rows → IsRow S.modulus (length m.columns) m.inputs (shown_row_at m.rows i)
   good i lt = row_good n m.inputs S lawful m.columns h.matrix.descend m.rows E flags h.matrix.rows form flagged m.rows h.matrix.rows i lt
 
   -- a key with a coefficient in a row is at most the row's lead, and this is within the pairs
-  row_within : (i : ℕ) (k : Key n) → i < length m.rows → (IsCongruent S.modulus (coefficient (vector_of n m.columns (row_at m.rows i)) k) 0 → ⊥)
-      → (k ≡ head_key (vector_of n m.columns (row_at m.rows i)) → ⊥) → IsBelowPairs S pairs k
+  row_within : (i : ℕ) (k : Key n) → i < length m.rows → (IsCongruent S.modulus (coefficient (vector_of n m.columns (shown_row_at m.rows i)) k) 0 → ⊥)
+      → (k ≡ head_key (vector_of n m.columns (shown_row_at m.rows i)) → ⊥) → IsBelowPairs S pairs k
   row_within i k lt nz other =
-      let r = vector_of n m.columns (row_at m.rows i) in
-      let d : Descends S.compare (vector_of n m.columns (row_at m.rows i)) =
-      (row_normal n S lawful m.columns h.matrix.descend m.inputs (row_at m.rows i) (good i lt)).descends in
+      let r = vector_of n m.columns (shown_row_at m.rows i) in
+      let d : Descends S.compare (vector_of n m.columns (shown_row_at m.rows i)) =
+      (row_normal n S lawful m.columns h.matrix.descend m.inputs (shown_row_at m.rows i) (good i lt)).descends in
       let l : i < length products = omega (arith, size m.rows, ap length h.vectors, length-map products (λ (s : KeptProduct). product_sum n list s)) in
-      let is : vector_of n m.columns (row_at m.rows i) ≡ product_sum n list (kept_at products i) =
+      let is : vector_of n m.columns (shown_row_at m.rows i) ≡ product_sum n list (kept_at products i) =
       sym (at m.rows i lt) ∙ ap (λ xs. get_or xs i []) h.vectors ∙ get_or-map (λ (s : KeptProduct). product_sum n list s) products i no_product [] l in
-      let first : head_key (vector_of n m.columns (row_at m.rows i)) ≡ product_lead n list (kept_at products i) =
+      let first : head_key (vector_of n m.columns (shown_row_at m.rows i)) ≡ kept_product_lead n list (kept_at products i) =
       ap head_key is ∙ product_first n list (kept_at products i) (h.each_product i l).some in
       let w = step_within S lawful list vectors pairs products (traced_at n list pairs products h.traced) (suc i) i (omega arith) l in
       elim (occurs r k) [
@@ -131,22 +130,22 @@ module _ (n : ℕ) (S : Setting n) (lawful : IsLawful S) (list : List (List (Cod
           | inl less ↦ (
             w.0,
             w.1,
-            below_trans S lawful k (product_lead n list (kept_at products i)) (key_of n w.0.lcm)
+            below_trans S lawful k (kept_product_lead n list (kept_at products i)) (key_of n w.0.lcm)
                 (subst (λ z. S.compare k z ≡ Less) first less) w.2,
           )
         ]
       ]
 
-  each_low : (j : ℕ) → j < length (unflagged flags E) → IsBelowPairs S pairs (head_key (vector_of n m.columns (row_at (unflagged flags E) j)))
+  each_low : (j : ℕ) → j < length (unflagged flags E) → IsBelowPairs S pairs (head_key (vector_of n m.columns (shown_row_at (unflagged flags E) j)))
   each_low j lt =
       let N = unflagged flags E in
       let o = unflagged_from flags E j lt in
-      let r = row_at E o.0 in
+      let r = shown_row_at E o.0 in
       let span = form.outside n (column_key n m.columns) o.0 o.1 in
-      let goodE : IsRow S.modulus (length m.columns) m.inputs (row_at E o.0) =
+      let goodE : IsRow S.modulus (length m.columns) m.inputs (shown_row_at E o.0) =
       row_good n m.inputs S lawful m.columns h.matrix.descend m.rows E flags h.matrix.rows form flagged E form.rows o.0 o.1 in
-      let k : Key n = head_key (vector_of n m.columns (row_at E o.0)) in
-      let one = (row_monic n S lawful m.columns h.matrix.descend m.inputs (row_at E o.0) goodE).one in
+      let k : Key n = head_key (vector_of n m.columns (shown_row_at E o.0)) in
+      let one = (row_monic n S lawful m.columns h.matrix.descend m.inputs (shown_row_at E o.0) goodE).one in
       subst (λ (x : RowShown). IsBelowPairs S pairs (head_key (vector_of n m.columns x))) o.2
       (elim (find_row {p = S.modulus} k span.residues (vectors_of n m.columns m.rows)) [
         | inl (i, l, nz) ↦

@@ -8,9 +8,9 @@ use Rattle.term_lists.proofs.Scaling.{Each_at}
 use Rattle.term_lists.specs.declared.key.Key.{Key as CodeKey}
 use Rattle.row_laws.proofs.Jobs.{ContainsLead_row}
 use Rattle.row_laws.specs.Jobs.{IsNewRows}
-use Rattle.row_matrix.specs.Rows.{Descend, IsRow, RowShown, column_key, vector_of, vectors_of}
+use Rattle.row_matrix.specs.Rows.{Descend, IsRow, RowShown, column_key, no_row, shown_row_at, vector_of, vectors_of}
 use Rattle.dense_reduction.proofs.Entries.{first_below}
-use Rattle.dense_reduction.specs.Pivots.{lead_column, no_row, row_at}
+use Rattle.dense_reduction.specs.Pivots.{lead_column}
 use Rattle.row_reduce.proofs.Forms.{key_first, one_column}
 use Rattle.row_reduce.specs.Echelons.{IsEchelonOf}
 use Rattle.symbolic_prep.proofs.Matrices.{contains_at}
@@ -27,19 +27,19 @@ module _ (n inputs : ℕ) (S : Setting n) (lawful : IsLawful S) (columns : List 
   size : (rows : List RowShown) → length (vectors_of n columns rows) ≡ length rows
   size rows = length-map rows (λ (r : RowShown). vector_of n columns r)
 
-  at : (rows : List RowShown) (i : ℕ) → i < length rows → get_or (vectors_of n columns rows) i [] ≡ vector_of n columns (row_at rows i)
+  at : (rows : List RowShown) (i : ℕ) → i < length rows → get_or (vectors_of n columns rows) i [] ≡ vector_of n columns (shown_row_at rows i)
   at rows i lt = get_or-map (λ (r : RowShown). vector_of n columns r) rows i no_row [] lt
 
   pub row_good : (rows : List RowShown) → Each (IsRow S.modulus (length columns) inputs) rows → (i : ℕ) → i < length rows
-      → IsRow S.modulus (length columns) inputs (row_at rows i)
-  row_good rows h i lt = Each_at (IsRow S.modulus (length columns) inputs) rows i (row_at rows i) h lt (get_or_default rows i no_row (row_at rows i) lt)
+      → IsRow S.modulus (length columns) inputs (shown_row_at rows i)
+  row_good rows h i lt = Each_at (IsRow S.modulus (length columns) inputs) rows i (shown_row_at rows i) h lt (get_or_default rows i no_row (shown_row_at rows i) lt)
 
   pub lead : (rows : List RowShown) → Each (IsRow S.modulus (length columns) inputs) rows → (i : ℕ) → i < length rows
       → leads (vectors_of n columns rows) i ≡ column_key n columns (lead_column rows i)
-  lead rows h i lt = ap head_key (at rows i lt) ∙ key_first n S lawful columns descend (row_at rows i).entries (row_good rows h i lt).monic
+  lead rows h i lt = ap head_key (at rows i lt) ∙ key_first n S lawful columns descend (shown_row_at rows i).entries (row_good rows h i lt).monic
 
   pub below : (rows : List RowShown) → Each (IsRow S.modulus (length columns) inputs) rows → (i : ℕ) → i < length rows → lead_column rows i < length columns
-  below rows h i lt = let g = row_good rows h i lt in first_below S.modulus (length columns) (row_at rows i).entries g.entries g.monic
+  below rows h i lt = let g = row_good rows h i lt in first_below S.modulus (length columns) (shown_row_at rows i).entries g.entries g.monic
 
   new_good : Each (IsRow S.modulus (length columns) inputs) (unflagged flags E)
   new_good = unflagged_each (IsRow S.modulus (length columns) inputs) flags E form.rows

@@ -16,7 +16,7 @@ use Rattle.term_lists.proofs.Scaling.{Each_at}
 use Rattle.term_lists.specs.Rings.{ring_comparison, variables}
 use Rattle.term_lists.specs.Vectors.{IsVector, sum_of, sums_of}
 use Rattle.term_lists.specs.declared.key.Key.{Key as CodeKey}
-use Rattle.module_vectors.specs.Trails.{KeptProduct, no_product, product_lead, kept_at}
+use Rattle.module_vectors.specs.Trails.{KeptProduct, no_product, kept_product_lead, kept_at}
 use Rattle.pair_criteria.specs.declared.pair.Pair.{Pair as CodePair}
 use Rattle.vector_division.proofs.Members.{sums_at}
 use Rattle.vector_division.specs.Reductions.{cofactors_of, unscaled}
@@ -32,9 +32,9 @@ use Rattle.basis_steps.specs.States.{Member, vectors}
 use Rattle.basis_core.proofs.MemberKeys.{in_occurs, lead_same}
 use Rattle.basis_core.proofs.Tracing.{pair_counted}
 use Rattle.basis_core.proofs.Tracking.{vectors_over, vectors_rank}
-use Rattle.basis_core.specs.Jobs.{HasLcmOfMembers, IsJobOver, JobShown, pair_of, pairs_of}
-use Rattle.basis_core.specs.Members.{IsRunRow, IsMemberShown, members_of, row_of, rows_of, setting_of}
-use Rattle.basis_core.specs.Outcomes.{IsOutcomeOver, product_of, products_of}
+use Rattle.basis_core.specs.Jobs.{HasLcmOfMembers, IsJobOver, JobShown, index_pair_of, pairs_of}
+use Rattle.basis_core.specs.Members.{IsRunRow, IsMemberShown, members_of, reduct_row_of, reduct_rows_of, setting_of}
+use Rattle.basis_core.specs.Outcomes.{IsOutcomeOver, indexed_product_of, indexed_products_of}
 use Rattle.basis_core.specs.Rows.{vectors_in}
 use Rattle.row_matrix.specs.Rows.{AreEntries, Entry, IsFromSources, IsRow, RowShown, row_sum, source_key, vector_of, vectors_of}
 use Rattle.dense_reduction.proofs.Entries.{entries_within}
@@ -103,13 +103,13 @@ module _ (j : JobShown) (job : IsJobOver j) (tracked : Each (IsMemberShown j.sha
       )
 
   listed_in : (es : List Entry) → Each (λ (x : Entry). (x.0 < length products) × (x.1 < j.shared.ring.modulus.value)) es
-      → (k : ℕ × Exponents (variables j.shared.ring)) → Contains (products_of n (map unscaled (source_parts products es))) k → Contains (products_of n products) k
+      → (k : ℕ × Exponents (variables j.shared.ring)) → Contains (indexed_products_of n (map unscaled (source_parts products es))) k → Contains (indexed_products_of n products) k
   listed_in [] w k (i, lt, is) = absurd (omega arith)
   listed_in (e ∷ es) w k (zero, lt, is) = (
     e.0,
-    (let a = w.0.0 in let l = length-map products (λ (t : KeptProduct). product_of n t) in omega arith),
+    (let a = w.0.0 in let l = length-map products (λ (t : KeptProduct). indexed_product_of n t) in omega arith),
     get_or-map
-        (λ (t : KeptProduct). product_of n t) products e.0 no_product k w.0.0 ∙ is,
+        (λ (t : KeptProduct). indexed_product_of n t) products e.0 no_product k w.0.0 ∙ is,
   )
   listed_in (e ∷ es) w k (suc i, lt, is) = listed_in es w.1 k (i, omega arith, is)
 
@@ -131,7 +131,7 @@ module _ (j : JobShown) (job : IsJobOver j) (tracked : Each (IsMemberShown j.sha
           (parts_are 0 r.sources good.sources);
     }
 
-    sum_row : IsSumRow j.shared.ring.modulus.value H (products_of n products) (row_of n row)
+    sum_row : IsSumRow j.shared.ring.modulus.value H (indexed_products_of n products) (reduct_row_of n row)
     sum_row = record {
       alone = refl;
       listed = Each_map _ _ (sum_of n row.products) (λ t h. listed_in r.sources within t.0 h)
@@ -146,16 +146,16 @@ module _ (j : JobShown) (job : IsJobOver j) (tracked : Each (IsMemberShown j.sha
         lead_unique S lawful (vector_of n columns r) k (head_key (vector_of n columns r)) (subst (λ v. IsLead S v k) made.sum lead)
         (IsLead_of_monic S lawful (row_monic n S lawful columns new.descend (length products) r good)) in
         let l = Each_at (HasLcmOfMembers n j.shared.ring.weights j.members) j.pairs i x job.lcms lt (sym is) in
-        (pair_of x, pair_counted x j.pairs (i, lt, is), subst₂ (λ a b. S.compare a b ≡ Less) (sym e) l.lcm less)
+        (index_pair_of x, pair_counted x j.pairs (i, lt, is), subst₂ (λ a b. S.compare a b ≡ Less) (sym e) l.lcm less)
 
   -- ---- all rows
-  made_vectors : (rs : List RowShown) (ms : List CodeReduct) → AreMadeRows j.shared.ring columns products rs ms → vectors (rows_of n ms) ≡ vectors_of n columns rs
+  made_vectors : (rs : List RowShown) (ms : List CodeReduct) → AreMadeRows j.shared.ring columns products rs ms → vectors (reduct_rows_of n ms) ≡ vectors_of n columns rs
   made_vectors [] [] h = refl
   made_vectors [] (m ∷ ms) h = absurd h
   made_vectors (r ∷ rs) [] h = absurd h
   made_vectors (r ∷ rs) (m ∷ ms) h = ap₂ (λ a b. a ∷ b) h.0.sum (made_vectors rs ms h.1)
 
-  made_length : (rs : List RowShown) (ms : List CodeReduct) → AreMadeRows j.shared.ring columns products rs ms → length (rows_of n ms) ≡ length rs
+  made_length : (rs : List RowShown) (ms : List CodeReduct) → AreMadeRows j.shared.ring columns products rs ms → length (reduct_rows_of n ms) ≡ length rs
   made_length [] [] h = refl
   made_length [] (m ∷ ms) h = absurd h
   made_length (r ∷ rs) [] h = absurd h
@@ -179,47 +179,47 @@ module _ (j : JobShown) (job : IsJobOver j) (tracked : Each (IsMemberShown j.sha
   made_each Q f (r ∷ rs) [] g h = absurd h
   made_each Q f (r ∷ rs) (m ∷ ms) g h = (f r m g.0 h.0, made_each Q f rs ms g.1 h.1)
 
-  over_rows : (Q : Member (variables j.shared.ring) → Type 0) (ms : List CodeReduct) → Each (λ m. Q (row_of (variables j.shared.ring) m)) ms
-      → Each Q (rows_of (variables j.shared.ring) ms)
+  over_rows : (Q : Member (variables j.shared.ring) → Type 0) (ms : List CodeReduct) → Each (λ m. Q (reduct_row_of (variables j.shared.ring) m)) ms
+      → Each Q (reduct_rows_of (variables j.shared.ring) ms)
   over_rows Q [] h = tt
   over_rows Q (m ∷ ms) h = (h.0, over_rows Q ms h.1)
 
-  over_pairs : (Q : Pair → Type 0) (xs : List CodePair) → Each (λ x. Q (pair_of x)) xs → Each Q (pairs_of xs)
+  over_pairs : (Q : Pair → Type 0) (xs : List CodePair) → Each (λ x. Q (index_pair_of x)) xs → Each Q (pairs_of xs)
   over_pairs Q [] h = tt
   over_pairs Q (x ∷ xs) h = (h.0, over_pairs Q xs h.1)
 
   -- ---- the products
-  step_is : (i : ℕ) → i < length products → product_at (products_of n products) i ≡ product_of n (kept_at products i)
-  step_is i lt = get_or-map (λ (t : KeptProduct). product_of n t) products i no_product (0, unit n) lt
+  step_is : (i : ℕ) → i < length products → product_at (indexed_products_of n products) i ≡ indexed_product_of n (kept_at products i)
+  step_is i lt = get_or-map (λ (t : KeptProduct). indexed_product_of n t) products i no_product (0, unit n) lt
 
-  numbered : (i : ℕ) → i < length (products_of n products) → IsJobProductAt j.shared.ring.modulus.value G (pairs_of j.pairs) (products_of n products) i
+  numbered : (i : ℕ) → i < length (indexed_products_of n products) → IsJobProductAt j.shared.ring.modulus.value G (pairs_of j.pairs) (indexed_products_of n products) i
   numbered i lt =
-      let li : i < length products = omega (arith, length-map products (λ (t : KeptProduct). product_of n t)) in
+      let li : i < length products = omega (arith, length-map products (λ (t : KeptProduct). indexed_product_of n t)) in
       let s = kept_at products i in
-      let lead : plain.product_lead G (product_at (products_of n products) i) ≡ product_lead n list (kept_at products i) =
+      let lead : plain.product_lead G (product_at (indexed_products_of n products) i) ≡ kept_product_lead n list (kept_at products i) =
       ap (plain.product_lead G) (step_is i li) ∙ lead_same n list (kept_at products i) in (
-        subst (λ z. (product_at (products_of n products) i).0 < z) (sym (length-map list (λ (v : List (CodeKey × ℕ)). sum_of n v)))
+        subst (λ z. (product_at (indexed_products_of n products) i).0 < z) (sym (length-map list (λ (v : List (CodeKey × ℕ)). sum_of n v)))
             (subst (λ (t : ℕ × Exponents (variables j.shared.ring)). t.0 < length list) (sym (step_is i li)) (new.each_product i li).member),
         elim (traced_at n list j.pairs products new.traced i li) [
           | inl (x, q) ↦
               let l = Each_at (HasLcmOfMembers n j.shared.ring.weights j.members) j.pairs q.0.0 x job.lcms q.0.1 (sym q.0.2) in
-              inl (pair_of x, pair_counted x j.pairs q.0, lead ∙ q.1 ∙ l.lcm ∙ ap (λ g. lcm_of g (pair_of x)) same)
+              inl (index_pair_of x, pair_counted x j.pairs q.0, lead ∙ q.1 ∙ l.lcm ∙ ap (λ g. lcm_of g (index_pair_of x)) same)
           | inr (k, lk, has) ↦
               let lk' : k < length products = omega arith in
               inr (
                 k,
                 lk,
-                omega (arith, length-map products (λ (t : KeptProduct). product_of n t)),
+                omega (arith, length-map products (λ (t : KeptProduct). indexed_product_of n t)),
                 subst₂ (λ t z. Occurs j.shared.ring.modulus.value (plain.product_vector G t) z) (sym (step_is k lk')) (sym lead)
-                    (in_occurs S lawful list G (kept_at products k) (product_lead n list (kept_at products i)) (sums_at n list (kept_at products k).0)
+                    (in_occurs S lawful list G (kept_at products k) (kept_product_lead n list (kept_at products i)) (sums_at n list (kept_at products k).0)
                     (item_of (IsVector n j.shared.ring.weights j.shared.ring.modulus.value (ring_comparison j.shared.ring n)) list (kept_at products k).0
                     (record { each = tt; descends = tt }) (vectors_over j.shared j.members tracked)) has),
               )
         ],
       )
 
-  of_job : AreJobProducts j.shared.ring.modulus.value G (pairs_of j.pairs) (products_of n products)
-  of_job = job_products_from j.shared.ring.modulus.value G (pairs_of j.pairs) (products_of n products) numbered
+  of_job : AreJobProducts j.shared.ring.modulus.value G (pairs_of j.pairs) (indexed_products_of n products)
+  of_job = job_products_from j.shared.ring.modulus.value G (pairs_of j.pairs) (indexed_products_of n products) numbered
 
   pub weighed_steps : Each (λ (t : KeptProduct). IsWeighed (variables j.shared.ring) j.shared.ring.weights t.1) products
   weighed_steps = Each_index (λ (t : KeptProduct). IsWeighed n j.shared.ring.weights t.1) products no_product (λ i lt. (new.each_product i lt).weighed)
@@ -234,16 +234,16 @@ module _ (j : JobShown) (job : IsJobOver j) (tracked : Each (IsMemberShown j.sha
   outcome ms made =
       let p = j.shared.ring.modulus.value in
       let good = good_rows rows new.rows_good new.combined new.low in
-      let count_pairs : length (pairs_of j.pairs) ≡ length j.pairs = length-map j.pairs (λ (x : CodePair). pair_of x) in
+      let count_pairs : length (pairs_of j.pairs) ≡ length j.pairs = length-map j.pairs (λ (x : CodePair). index_pair_of x) in
       record {
         rows = made_each (IsRunRow j.shared (length j.members)) (λ r m g h. run_row r m g.0 g.1 h) rows ms good made;
         weighed = weighed_steps;
         outcome = record {
           some = subst (λ c. 0 < c) (sym count_pairs) job.some;
           pairs = job.real;
-          job_products = subst (λ g. AreJobProducts p g (pairs_of j.pairs) (products_of n products)) (sym same) of_job;
-          sums = over_rows (IsSumRow p H (products_of n products)) ms
-              (made_each (λ m. IsSumRow p H (products_of n products) (row_of n m)) (λ r m g h. sum_row r m g.0 g.1 h) rows ms good made);
+          job_products = subst (λ g. AreJobProducts p g (pairs_of j.pairs) (indexed_products_of n products)) (sym same) of_job;
+          sums = over_rows (IsSumRow p H (indexed_products_of n products)) ms
+              (made_each (λ m. IsSumRow p H (indexed_products_of n products) (reduct_row_of n m)) (λ r m g h. sum_row r m g.0 g.1 h) rows ms good made);
           represented = subst₂ (λ a b. Each (IsRepresented S (a ++ b)) (pairs_of j.pairs)) (sym same) (sym (made_vectors rows ms made))
               (over_pairs (IsRepresented S (G ++ vectors_of n columns rows)) j.pairs (new.represented ranks));
           few = subst₂ (λ a b. a < 2 * b) (sym (made_length rows ms made)) (sym count_pairs) (new.few job.some);

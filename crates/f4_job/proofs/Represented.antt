@@ -22,9 +22,9 @@ use Rattle.row_laws.proofs.Jobs.{job_representation}
 use Rattle.row_laws.proofs.NewRows.{IsMonicList_new}
 use Rattle.row_laws.specs.Jobs.{HasPairRows, IsEchelonForm, IsNewRows}
 use Rattle.vector_division.proofs.Members.{sums_at}
-use Rattle.row_matrix.specs.Rows.{IsFromSources, IsRow, MatrixShown, RowShown, column_key, first_column, row_sum, source_key, vector_of, vectors_of}
+use Rattle.row_matrix.specs.Rows.{IsFromSources, IsRow, MatrixShown, RowShown}
+use Rattle.row_matrix.specs.Rows.{column_key, first_column, no_row, row_sum, shown_row_at, source_key, vector_of, vectors_of}
 use Rattle.dense_reduction.proofs.Entries.{first_below, monic_entries}
-use Rattle.dense_reduction.specs.Pivots.{no_row, row_at}
 use Rattle.dense_reduction.specs.Underway.{AreRowsCombined}
 use Rattle.row_reduce.proofs.Forms.{echelon_form}
 use Rattle.row_reduce.specs.Echelons.{IsEchelonOf}
@@ -73,7 +73,7 @@ module _ (n : ℕ) (S : Setting n) (lawful : IsLawful S) (list : List (List (Cod
   count = h.inputs ∙ sym (length-map m.rows (λ (r : RowShown). vector_of n m.columns r)) ∙ ap length h.vectors
       ∙ length-map products (λ (s : KeptProduct). product_sum n list s)
 
-  itself : (i : ℕ) → i < length m.rows → IsFromSources n S.modulus F m.columns (row_at m.rows i)
+  itself : (i : ℕ) → i < length m.rows → IsFromSources n S.modulus F m.columns (shown_row_at m.rows i)
   itself i lt = IsSame_of S.modulus _ _ (
       ap (λ es. combination F (row_sum (source_key n) es)) (h.sources i lt) ∙ append-nil (scale 1 (unit n) (get_or F i [])) ∙ scale-one (get_or F i [])
       ∙ ap (λ xs. get_or xs i []) (sym h.vectors) ∙ get_or-map (λ (r : RowShown). vector_of n m.columns r) m.rows i no_row [] lt)

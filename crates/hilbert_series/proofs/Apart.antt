@@ -1,8 +1,8 @@
 -- Monomials without a common variable
 use Rattle.std.proofs.Common.{List, [], ap, ap₂, arith, map, refl, subst, sym, ℕ, ◌-◌, ◌∙◌, ◌∷◌, ◌≡◌, ◌++◌}
 use Rattle.monomials.specs.Exponents.{Exponents, cons, exponents_of, head, nil, quotient, tail}
-use Rattle.monomial_orders.specs.Kept.{Monomial}
-use Rattle.hilbert_series.specs.Generators.{AreCoprimeToAll, IsCoprimeToAll, monomials}
+use Rattle.monomial_orders.specs.Kept.{Monomial, monomials}
+use Rattle.hilbert_series.specs.Generators.{AreCoprimeToAll, IsCoprimeToAll}
 
 -- what has no variable in common with k has none with a quotient of k
 quotient_less : {n : ℕ} (s k p : Exponents n) → quotient s k ≡ s → quotient s (quotient k p) ≡ s

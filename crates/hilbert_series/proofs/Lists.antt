@@ -12,11 +12,11 @@ use Rattle.hilbert_laws.proofs.Recurrence.{IsNumerator_one}
 use Rattle.hilbert_laws.proofs.Sizes.{numerator_size}
 use Rattle.hilbert_laws.specs.Numerators.{IsNumerator, plus, size}
 use Rattle.hilbert_laws.specs.Shifting.{minus, shifted}
-use Rattle.monomial_orders.specs.Kept.{IsWeighed, Monomial}
+use Rattle.monomial_orders.specs.Kept.{IsWeighed, Monomial, monomials}
 use Rattle.hilbert_series.proofs.Same.{IsNumerator_coprime, IsNumerator_same, has_divisor-append}
 use Rattle.hilbert_series.proofs.Apart.{apart_append, apart_quotients, quotients_with}
 use Rattle.hilbert_series.specs.Generators.{AreCoprimeToAll, AreMonomialGenerators, HaveSameCoefficients, HaveSameMultiples, IsCoprimeToAll, IsNumeratorOf, IsNumeratorWith}
-use Rattle.hilbert_series.specs.Generators.{IsParted, IsShorter, IsNumeratorSplit, monomials}
+use Rattle.hilbert_series.specs.Generators.{IsParted, IsShorter, IsNumeratorSplit}
 
 pub monomials-append : (n : ℕ) (xs ys : List Monomial) → monomials n (xs ++ ys) ≡ monomials n xs ++ monomials n ys
 monomials-append n [] ys = refl

@@ -6,7 +6,7 @@ use Rattle.std.specs.Prelude.{Option, Some}
 use Rattle.monomials.specs.Exponents.{Divides, Exponents, exponents_of, lcm, quotient, times}
 use Rattle.monomial_counts.proofs.Divisors.{divisor_test}
 use Rattle.monomial_counts.specs.Counts.{has_divisor, is_divisor}
-use Rattle.monomial_orders.specs.Kept.{IsWeighed, Monomial}
+use Rattle.monomial_orders.specs.Kept.{IsWeighed, Monomial, monomials}
 use Rattle.monomial_orders.specs.Monomials.{IsMonomial, IsQuotient}
 use Rattle.std.proofs.lemmas.List.Sorted.{IsPermutation-sym, length_permutation}
 use Rattle.std.specs.List.Sorted.{IsPermutation}
@@ -14,7 +14,7 @@ use Rattle.formal_sums.specs.FormalSums.{Each}
 use Rattle.term_lists.proofs.Gathers.{Each_permutation}
 use Rattle.hilbert_series.proofs.Lists.{Each_append, Each_back, Each_front, has_divisor-last, monomials-append, quotient_apart, quotient_lcm}
 use Rattle.hilbert_series.proofs.Same.{has_divisor_redundant}
-use Rattle.hilbert_series.specs.Generators.{AreCoprimeToAll, AreMonomialGenerators, HaveSameMultiples, IsCoprimeToAll, IsShorter, monomials}
+use Rattle.hilbert_series.specs.Generators.{AreCoprimeToAll, AreMonomialGenerators, HaveSameMultiples, IsCoprimeToAll, IsShorter}
 
 -- the exponents of a generator
 abbrev monomial : (n : ℕ) → Monomial → Exponents n

@@ -13,11 +13,11 @@ use Rattle.hilbert_laws.proofs.Orders.{series_same}
 use Rattle.hilbert_laws.proofs.Recurrence.{IsNumerator_position}
 use Rattle.hilbert_laws.specs.Numerators.{IsNumerator, leads_at, module_count, plus, size}
 use Rattle.hilbert_laws.specs.Shifting.{shifted}
-use Rattle.monomial_orders.specs.Kept.{IsWeighed, Monomial}
+use Rattle.monomial_orders.specs.Kept.{IsWeighed, Monomial, monomials}
 use Rattle.term_lists.specs.Vectors.{key_of}
 use Rattle.term_lists.specs.declared.key.Key.{Key as CodeKey}
 use Rattle.hilbert_series.proofs.Lists.{Each_append, length_monomials, monomials-append}
-use Rattle.hilbert_series.specs.Generators.{AreMonomialGenerators, HaveSameCoefficients, IsNumeratorOf, monomials}
+use Rattle.hilbert_series.specs.Generators.{AreMonomialGenerators, HaveSameCoefficients, IsNumeratorOf}
 use Rattle.hilbert_series.specs.Leads.{AreLeads, IsFirstOver, keys_of}
 
 -- ---- one lead more

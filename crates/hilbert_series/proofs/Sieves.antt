@@ -3,12 +3,12 @@ use Rattle.std.proofs.Common.{Bool, List, [], ap, ap₂, arith, false, get_or, l
 use Rattle.std.specs.Prelude.{if◌then◌else◌}
 use Rattle.monomials.specs.Exponents.{Exponents, exponents_of}
 use Rattle.monomial_counts.specs.Counts.{has_divisor, is_divisor}
-use Rattle.monomial_orders.specs.Kept.{IsWeighed, Monomial}
+use Rattle.monomial_orders.specs.Kept.{IsWeighed, Monomial, monomials}
 use Rattle.hilbert_series.proofs.Apart.{are_apart_append}
 use Rattle.hilbert_series.proofs.Lists.{Each_append, has_divisor-last, length_monomials, monomials-append}
 use Rattle.hilbert_series.proofs.Loops.{apart_more, each_item, take_item}
 use Rattle.hilbert_series.proofs.Same.{has_divisor-append}
-use Rattle.hilbert_series.specs.Generators.{AreCoprimeToAll, AreMonomialGenerators, IsCoprimeToAll, IsParted, IsSieved, monomials}
+use Rattle.hilbert_series.specs.Generators.{AreCoprimeToAll, AreMonomialGenerators, IsCoprimeToAll, IsParted, IsSieved}
 
 -- the first i generators are those of `first` and of `other`
 pub record IsSieving (n : ℕ) (ws : List ℕ) (gs first other : List Monomial) (i : ℕ) : Type 0 where

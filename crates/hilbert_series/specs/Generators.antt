@@ -5,11 +5,7 @@ use Rattle.monomial_counts.specs.Counts.{has_divisor, standard_count}
 use Rattle.formal_sums.specs.FormalSums.{Each}
 use Rattle.hilbert_laws.specs.Numerators.{IsNumerator, plus}
 use Rattle.hilbert_laws.specs.Shifting.{shifted}
-use Rattle.monomial_orders.specs.Kept.{IsWeighed, Monomial}
-
--- the monomials in n variables that the code's generators are
-abbrev pub monomials : (n : ℕ) → List Monomial → List (Exponents n)
-monomials n gs = map (λ g. exponents_of n g.exponents) gs
+use Rattle.monomial_orders.specs.Kept.{IsWeighed, Monomial, monomials}
 
 -- each generator is a monomial in n variables of these weights
 abbrev pub AreMonomialGenerators : ℕ → List ℕ → List Monomial → Type 0

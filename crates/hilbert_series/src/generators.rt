@@ -2,8 +2,8 @@
 ghost use Rattle.std.specs.Prelude.{◌≡◌, ◌≤◌, ◌++◌, ◌∷◌, [], IfOk, IfSome, IsTrue, List, OnOk, length, map, suc};
 ghost use Rattle.monomials.specs.Exponents.{Exponents, exponents_of, quotient};
 ghost use Rattle.monomial_counts.specs.Counts.{has_divisor};
-ghost use Rattle.monomial_orders.specs.Kept.{IsWeighed};
-ghost use Rattle.hilbert_series.specs.Generators.{AreCoprimeToAll, AreMonomialGenerators, HaveSameMultiples, IsCoprimeToAll, IsShorter, monomials};
+ghost use Rattle.monomial_orders.specs.Kept.{IsWeighed, monomials};
+ghost use Rattle.hilbert_series.specs.Generators.{AreCoprimeToAll, AreMonomialGenerators, HaveSameMultiples, IsCoprimeToAll, IsShorter};
 
 use monomial_orders::{Mono, MonoStop, NoMemory, Weights};
 use std::alloc::Global;

@@ -2,8 +2,9 @@
 ghost use Rattle.std.specs.Prelude.{ℕ, ◌≡◌, ◌<◌, ◌≤◌, IfErr, IfOk, None, OnOk, Some, Err, length};
 ghost use Rattle.hilbert_laws.specs.Numerators.{IsNumerator, leads_at, module_count};
 ghost use Rattle.hilbert_series.specs.declared.stop.HilbertStop.TheVariants.{Leads};
-ghost use Rattle.hilbert_series.specs.Generators.{AreMonomialGenerators, HaveSameCoefficients, monomials};
+ghost use Rattle.hilbert_series.specs.Generators.{AreMonomialGenerators, HaveSameCoefficients};
 ghost use Rattle.hilbert_series.specs.Leads.{AreLeads, EndsInNonzero, IsFirstOver, NumeratorStops, keys_of};
+ghost use Rattle.monomial_orders.specs.Kept.{monomials};
 
 use crate::HilbertStop;
 use crate::coefficients::plus_shifted;

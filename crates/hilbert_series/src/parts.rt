@@ -1,6 +1,7 @@
 // Parts of a list of generators that have no variable in common.
 ghost use Rattle.std.specs.Prelude.{◌++◌, ◌∷◌, ◌≡◌, [], IfOk, IfSome, IsTrue, OnOk, if◌then◌else◌, length};
-ghost use Rattle.hilbert_series.specs.Generators.{AreCoprimeToAll, AreMonomialGenerators, IsParted, IsSieved, monomials};
+ghost use Rattle.hilbert_series.specs.Generators.{AreCoprimeToAll, AreMonomialGenerators, IsParted, IsSieved};
+ghost use Rattle.monomial_orders.specs.Kept.{monomials};
 
 use crate::generators::{is_apart, push_copy};
 use monomial_orders::{Mono, NoMemory, Weights};

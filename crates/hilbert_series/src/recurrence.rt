@@ -1,7 +1,7 @@
 // The recurrence for numerators.
 ghost use Rattle.std.specs.Prelude.{◌+◌, ◌≡◌, ◌≤◌, IfOk, IfSome, length};
-ghost use Rattle.monomial_orders.specs.Kept.{IsWeighed};
-ghost use Rattle.hilbert_series.specs.Generators.{AreCoprimeToAll, AreMonomialGenerators, IsNumeratorOf, IsNumeratorWith, IsNumeratorSplit, monomials};
+ghost use Rattle.monomial_orders.specs.Kept.{IsWeighed, monomials};
+ghost use Rattle.hilbert_series.specs.Generators.{AreCoprimeToAll, AreMonomialGenerators, IsNumeratorOf, IsNumeratorWith, IsNumeratorSplit};
 
 use crate::coefficients::{minus_shifted, plus_shifted};
 use crate::generators::{is_apart, pivot, quotients, with_generator, without_multiples};

@@ -18,29 +18,29 @@ use Rattle.term_lists.specs.declared.ring.Ring.{Ring}
 use Rattle.vector_division.proofs.Members.{sums_at}
 use Rattle.syzygy_engine.specs.Marking.{StandOneByOne}
 use Rattle.syzygy_engine.proofs.Standing.{Terms}
-use Rattle.ideal_ops.specs.Components.{placed}
+use Rattle.ideal_ops.specs.Components.{positioned_at}
 
 -- ---- terms
-pub sum_placed : (n j : ℕ) (v : Terms) → sum_of n (placed j v) ≡ product (sum_of n v) (basis_vector j)
+pub sum_placed : (n j : ℕ) (v : Terms) → sum_of n (positioned_at j v) ≡ product (sum_of n v) (basis_vector j)
 sum_placed n j [] = refl
 sum_placed n j (t ∷ v) = ap₂ ◌++◌ (sym (single_vector ((j, exponents_of n t.0.monomial.exponents), t.1))) (sum_placed n j v)
 
 -- one more term
 pub placed_next :
     (j : ℕ) (items : Terms) (i : ℕ) (x : CodeKey × ℕ) → i < length items → x ≡ get_or items i x
-    → placed j (take (i + 1) items) ≡ placed j (take i items) ++ (record { position = j; monomial = x.0.monomial }, x.1) ∷ []
+    → positioned_at j (take (i + 1) items) ≡ positioned_at j (take i items) ++ (record { position = j; monomial = x.0.monomial }, x.1) ∷ []
 placed_next j items i x lt e =
     let s : i + 1 ≡ suc i = omega arith in
-    ap (λ z. placed j (take z items)) s ∙ go items i lt e
+    ap (λ z. positioned_at j (take z items)) s ∙ go items i lt e
   where
     go :
         (items : Terms) (i : ℕ) → i < length items → x ≡ get_or items i x
-        → placed j (take (suc i) items) ≡ placed j (take i items) ++ (record { position = j; monomial = x.0.monomial }, x.1) ∷ []
+        → positioned_at j (take (suc i) items) ≡ positioned_at j (take i items) ++ (record { position = j; monomial = x.0.monomial }, x.1) ∷ []
     go [] i lt e = absurd (omega (arith, lt))
     go (y ∷ ys) zero lt e = ap (λ z. (record { position = j; monomial = z.0.monomial }, z.1) ∷ []) (sym e)
     go (y ∷ ys) (suc i) lt e = ap (λ z. (record { position = j; monomial = y.0.monomial }, y.1) ∷ z) (go ys i (omega (arith, lt)) e)
 
-pub placed_over : (ring : Ring) (j : ℕ) (v : Terms) → AreTermsOver ring v → AreTermsOver ring (placed j v)
+pub placed_over : (ring : Ring) (j : ℕ) (v : Terms) → AreTermsOver ring v → AreTermsOver ring (positioned_at j v)
 placed_over ring j [] h = tt
 placed_over ring j (t ∷ v) h = (h.0, placed_over ring j v h.1)
 

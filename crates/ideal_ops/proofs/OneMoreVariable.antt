@@ -31,7 +31,7 @@ use Rattle.term_lists.specs.declared.stop.VectStop.TheVariants.{Memory, Degree}
 use Rattle.module_vectors.specs.ProductStops.{CombinationStops}
 use Rattle.module_vectors.specs.declared.trail.KeptTrail.{KeptTrail}
 use Rattle.syzygy_engine.proofs.Standing.{Terms}
-use Rattle.ideal_ops.specs.Components.{placed}
+use Rattle.ideal_ops.specs.Components.{positioned_at}
 use Rattle.ideal_ops.specs.FrontSteps.{IsFrontMonomial, IsBehindFactor}
 use Rattle.ideal_ops.specs.FrontVariable.{IsFrontTrail, IsFrontVector, front_polynomial, rest_polynomial}
 use Rattle.ideal_ops.specs.Products.{IsProductTrail}
@@ -274,15 +274,15 @@ moved_scale j c e (t ∷ f) = ap (λ z. ((j, times e (cons 0 t.0.1)), c * t.1) �
 pub inverse_front :
     (ring r : Ring) (w terms u : Terms) (j : ℕ) (f : FormalSum (variables ring)) → 0 < ring.modulus.value → r ≡ front_ring ring
     → StandsFor (front_ring ring) w (scale (ring.modulus.value - 1) (first_variable (variables ring)) (with_first f))
-    → sum_of (variables r) terms ≡ sum_of (variables r) (placed j w) ++ basis_vector j → IsVectorOver r (ring_comparison r) u → StandsFor r u (sum_of (variables r) terms)
+    → sum_of (variables r) terms ≡ sum_of (variables r) (positioned_at j w) ++ basis_vector j → IsVectorOver r (ring_comparison r) u → StandsFor r u (sum_of (variables r) terms)
     → IsFrontVector ring (inverse_vector ring.modulus.value f j) u
 inverse_front ring r w terms u j f pos e hw whole hu s =
     let n = variables ring in
     let p = ring.modulus.value in
     let X = scale (p - 1) (first_variable n) (with_first f) in
-    let whole' = subst (λ q. sum_of (variables q) terms ≡ sum_of (variables q) (placed j w) ++ basis_vector j) e whole in
+    let whole' = subst (λ q. sum_of (variables q) terms ≡ sum_of (variables q) (positioned_at j w) ++ basis_vector j) e whole in
     let s' = subst (λ q. StandsFor q u (sum_of (variables q) terms)) e s in
-    let first : IsSame p (sum_of (suc n) (placed j w)) (scale (p - 1) (first_variable n) (with_first (product f (basis_vector j)))) =
+    let first : IsSame p (sum_of (suc n) (positioned_at j w)) (scale (p - 1) (first_variable n) (with_first (product f (basis_vector j)))) =
     IsSame_trans (IsSame_of p _ _ (sum_placed (suc n) j w))
     (IsSame_trans (IsSame_linear pos (λ v. product v (basis_vector j)) (IsLinear_product_left (basis_vector j)) (sum_of (suc n) w) X hw)
     (IsSame_of p _ _ (product_moved j X ∙ moved_scale j (p - 1) (first_variable n) f ∙ ap (λ v. scale (p - 1) (first_variable n) (with_first v)) (sym (product_moved j f))))) in

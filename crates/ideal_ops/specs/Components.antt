@@ -9,8 +9,8 @@ use Rattle.ideal_ops.specs.Modulo.{AreModuloRuns}
 use Rattle.ideal_ops.specs.Runs.{IsRunFor, OfRuns}
 
 -- the terms, each moved to this position
-abbrev pub placed : ℕ → List (CodeKey × ℕ) → List (CodeKey × ℕ)
-placed j terms = map (λ t. (record { position = j; monomial = t.0.monomial }, t.1)) terms
+abbrev pub positioned_at : ℕ → List (CodeKey × ℕ) → List (CodeKey × ℕ)
+positioned_at j terms = map (λ t. (record { position = j; monomial = t.0.monomial }, t.1)) terms
 
 -- the runs of a quotient: f e_1 to f e_m with marks, and the members
 abbrev pub AreQuotientRuns : Ring → ℕ → List (List (CodeKey × ℕ)) → List (CodeKey × ℕ) → OfRuns

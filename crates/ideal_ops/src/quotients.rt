@@ -9,7 +9,7 @@ ghost use Rattle.risen_counts.specs.Counts.{RoseAtMost};
 ghost use Rattle.groebner_iface.specs.Calls.{CallStops, NoTrail};
 ghost use Rattle.syzygy_engine.specs.Kernels.{runs_in_order};
 ghost use Rattle.ideal_ops.specs.Answers.{IsBasisOfThose};
-ghost use Rattle.ideal_ops.specs.Components.{AreQuotientRuns, placed};
+ghost use Rattle.ideal_ops.specs.Components.{AreQuotientRuns, positioned_at};
 ghost use Rattle.ideal_ops.specs.Runs.{AreVectorsFor};
 
 use crate::modulo::kernel_modulo;
@@ -29,7 +29,7 @@ fn push_placed(
     position: u64,
     terms: &mut Vec<(Key, u32)>,
 ) -> Result<(), NoMemory>
-    ensures { OnOk result (terms.new.items ≡ terms.old.items ++ placed position (term.now ∷ [])) }
+    ensures { OnOk result (terms.new.items ≡ terms.old.items ++ positioned_at position (term.now ∷ [])) }
 {
     let monomial = term.0.monomial.try_copy(alloc)?;
     terms.push((Key { position, monomial }, term.1))?;
@@ -42,7 +42,7 @@ pub(crate) fn placed_terms(
     v: &Vect,
     position: u64,
 ) -> Result<Vec<(Key, u32)>, NoMemory>
-    ensures { IfOk result (λ terms. terms.items ≡ placed position v.now) }
+    ensures { IfOk result (λ terms. terms.items ≡ positioned_at position v.now) }
 {
     let mut terms = Vec::with_capacity(alloc, v.terms().len() + 1)?;
     for term in v.terms() {

@@ -9,7 +9,7 @@ ghost use Rattle.term_lists.specs.Vectors.{AreTermsOver, AreVectorsOver, HasPosi
 ghost use Rattle.risen_counts.specs.Counts.{RoseAtMost};
 ghost use Rattle.groebner_iface.specs.Calls.{CallStops};
 ghost use Rattle.ideal_ops.specs.Answers.{IsBasisOfThose};
-ghost use Rattle.ideal_ops.specs.Components.{placed};
+ghost use Rattle.ideal_ops.specs.Components.{positioned_at};
 ghost use Rattle.ideal_ops.specs.FrontSteps.{IsFrontMonomial};
 ghost use Rattle.ideal_ops.specs.FrontVariable.{AreSaturationRuns, IsFrontTrail, IsFrontVector, IsTrailOfSaturation, front_polynomial};
 ghost use Rattle.ideal_ops.specs.Products.{WorkStops};
@@ -89,7 +89,7 @@ fn inverse_terms(
     requires { AreTermsOver front.now w.now }
     ensures terms { IfOk result (λ terms. AreTermsOver front.now terms.items) }
     ensures sum { let n = variables front.now in
-        IfOk result (λ terms. sum_of n terms.items ≡ sum_of n (placed position w.now) ++ basis_vector position) }
+        IfOk result (λ terms. sum_of n terms.items ≡ sum_of n (positioned_at position w.now) ++ basis_vector position) }
 {
     front.modulus.domain();
     let mut terms = placed_terms(alloc, w, position)?;

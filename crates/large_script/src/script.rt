@@ -1,6 +1,6 @@
 // The script, written from left to right.
 ghost use Rattle.std.specs.Prelude.{◌≡◌, ◌++◌, IfOk, OnOk, [], codes, if◌then◌else◌};
-ghost use Rattle.large_script.specs.Script.{joined, next_state, polynomial, polynomials, residue, script_of, state_after, term_of};
+ghost use Rattle.large_script.specs.Script.{next_state, polynomial, polynomials, quadratic_term, residue, script_of, separated, state_after};
 
 use crate::NoMemory;
 use itoa::Buffer;
@@ -38,7 +38,7 @@ fn append_term(
     product: &[u8],
 ) -> Result<(), NoMemory>
     ensures ok { OnOk result (out.new.items
-        ≡ (out.old.items ++ (if is_first then [] else (codes "+"))) ++ term_of (residue state) product.now) }
+        ≡ (out.old.items ++ (if is_first then [] else (codes "+"))) ++ quadratic_term (residue state) product.now) }
 {
     separate(out, is_first, b"+")?;
     let mut buffer = Buffer::new();
@@ -66,7 +66,7 @@ fn append_polynomial(out: &mut Vec<u8>, start: u32) -> Result<u32, NoMemory>
 
 /// Appends the polynomials, joined by a comma and a blank.
 fn append_polynomials(out: &mut Vec<u8>, seed: u32) -> Result<(), NoMemory>
-    ensures ok { OnOk result (out.new.items ≡ out.old.items ++ joined (codes ", ") (polynomials seed 6)) }
+    ensures ok { OnOk result (out.new.items ≡ out.old.items ++ separated (codes ", ") (polynomials seed 6)) }
 {
     let mut state = seed;
     for k in 0..6_u32 {

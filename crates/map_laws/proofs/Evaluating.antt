@@ -15,7 +15,7 @@ use Rattle.operation_laws.specs.Operations.{basis_vector, listed}
 use Rattle.map_laws.proofs.Modulo.{less_zero}
 use Rattle.map_laws.proofs.Places.{after-behind, after-fitted, after-times, behind-times, fitted-behind, fitted-fitted, fitted-times, fitted-unit, after-unit}
 use Rattle.map_laws.proofs.Substituting.{IsLinear_image_times, IsLinear_substituted, IsMember_image_times, image_times-scale, image_times-times, image_times-unit, substituted_key, substituted_variable}
-use Rattle.map_laws.specs.Graphs.{after, behind, fitted, from_second, graph_list, graph_member, in_first, in_second, variable}
+use Rattle.map_laws.specs.Graphs.{behind, exponents_from, fitted, from_second, graph_list, graph_member, in_first, in_second, variable_monomial}
 use Rattle.map_laws.specs.Substitution.{image_times, substituted}
 
 -- ---- the embeddings are linear and keep multiples
@@ -26,7 +26,7 @@ pub IsLinear_in_second : {n : ℕ} (m : ℕ) → IsLinear (in_second {n = n} m)
 IsLinear_in_second {n} m = record { weight = λ f k. f (k.0, behind m n k.1); by_weight = weighted_sum-map (λ k. (k.0, behind m n k.1)) }
 
 pub IsLinear_from_second : {m : ℕ} (n : ℕ) → IsLinear (from_second {m = m} n)
-IsLinear_from_second n = record { weight = λ f k. f (k.0, after n n k.1); by_weight = weighted_sum-map (λ k. (k.0, after n n k.1)) }
+IsLinear_from_second n = record { weight = λ f k. f (k.0, exponents_from n n k.1); by_weight = weighted_sum-map (λ k. (k.0, exponents_from n n k.1)) }
 
 pub in_first-scale : {n : ℕ} (m c : ℕ) (e : Exponents n) (v : FormalSum n) → in_first m (scale c e v) ≡ scale c (fitted m e) (in_first m v)
 in_first-scale m c e [] = refl
@@ -36,7 +36,7 @@ pub in_second-scale : {n : ℕ} (m c : ℕ) (e : Exponents n) (v : FormalSum n) 
 in_second-scale {n} m c e [] = refl
 in_second-scale {n} m c e (t ∷ v) = ap₂ ◌∷◌ (ap (λ x. ((t.0.0, x), c * t.1)) (behind-times m n e t.0.1)) (in_second-scale m c e v)
 
-pub from_second-scale : {m : ℕ} (n c : ℕ) (e : Exponents m) (v : FormalSum m) → from_second n (scale c e v) ≡ scale c (after n n e) (from_second n v)
+pub from_second-scale : {m : ℕ} (n c : ℕ) (e : Exponents m) (v : FormalSum m) → from_second n (scale c e v) ≡ scale c (exponents_from n n e) (from_second n v)
 from_second-scale n c e [] = refl
 from_second-scale n c e (t ∷ v) = ap₂ ◌∷◌ (ap (λ x. ((t.0.0, x), c * t.1)) (after-times n n e t.0.1)) (from_second-scale n c e v)
 
@@ -85,7 +85,7 @@ graph_list_rank {n} p m F L f l =
 module _ {n : ℕ} (F : List (FormalSum n)) where
   -- the value of a monomial
   abbrev value_key : {m : ℕ} → Key m → FormalSum n
-  value_key k = scale 1 (fitted n k.1) (image_times F (after n n k.1) (basis_vector k.0))
+  value_key k = scale 1 (fitted n k.1) (image_times F (exponents_from n n k.1) (basis_vector k.0))
 
   -- the polynomials of F for the second variables, the first as they are
   abbrev pub evaluated : {m : ℕ} → FormalSum m → FormalSum n
@@ -100,26 +100,26 @@ module _ {n : ℕ} (F : List (FormalSum n)) where
   module _ {m p : ℕ} (pos : 0 < p) where
     pub evaluated-scale :
         (c : ℕ) (e : Exponents m) (w : FormalSum m)
-        → IsSame p (evaluated (scale c e w)) (scale c (fitted n e) (image_times F (after n n e) (evaluated w)))
+        → IsSame p (evaluated (scale c e w)) (scale c (fitted n e) (image_times F (exponents_from n n e) (evaluated w)))
     evaluated-scale c e w =
-        IsSame_keys (λ w. evaluated (scale c e w)) (λ w. scale c (fitted n e) (image_times F (after n n e) (evaluated w)))
+        IsSame_keys (λ w. evaluated (scale c e w)) (λ w. scale c (fitted n e) (image_times F (exponents_from n n e) (evaluated w)))
         (IsLinear_after (scale c e) evaluated (IsLinear_scale c e) IsLinear_evaluated)
-        (IsLinear_after (λ w. image_times F (after n n e) (evaluated w)) (scale c (fitted n e)) (IsLinear_after evaluated (image_times F (after n n e)) IsLinear_evaluated (IsLinear_image_times F (after n n e))) (IsLinear_scale c (fitted n e)))
+        (IsLinear_after (λ w. image_times F (exponents_from n n e) (evaluated w)) (scale c (fitted n e)) (IsLinear_after evaluated (image_times F (exponents_from n n e)) IsLinear_evaluated (IsLinear_image_times F (exponents_from n n e))) (IsLinear_scale c (fitted n e)))
         at w
       where
-        at : (k : Key m) → IsSame p (evaluated (scale c e ((k, 1) ∷ []))) (scale c (fitted n e) (image_times F (after n n e) (evaluated ((k, 1) ∷ []))))
+        at : (k : Key m) → IsSame p (evaluated (scale c e ((k, 1) ∷ []))) (scale c (fitted n e) (image_times F (exponents_from n n e) (evaluated ((k, 1) ∷ []))))
         at k =
             let b : FormalSum n = basis_vector k.0 in
-            let x : FormalSum n = image_times F (after n n e) (image_times F (after n n k.1) b) in
-            IsSame_trans (IsSame_of p _ (scale c (times (fitted n e) (fitted n k.1)) (image_times F (times (after n n e) (after n n k.1)) b))
+            let x : FormalSum n = image_times F (exponents_from n n e) (image_times F (exponents_from n n k.1) b) in
+            IsSame_trans (IsSame_of p _ (scale c (times (fitted n e) (fitted n k.1)) (image_times F (times (exponents_from n n e) (exponents_from n n k.1)) b))
             (append-nil _
             ∙ ap₂ (λ f a. scale (c * 1) (unit n) (scale 1 f (image_times F a b))) (fitted-times n e k.1) (after-times n n e k.1)
             ∙ scale-scale (c * 1) 1 (unit n) (times (fitted n e) (fitted n k.1)) _
-            ∙ ap₂ (λ d f. scale d f (image_times F (times (after n n e) (after n n k.1)) b)) (mul-one (c * 1) ∙ mul-one c) (times-unit _)))
-            (IsSame_trans (IsSame_scale pos c (times (fitted n e) (fitted n k.1)) (image_times-times pos F (after n n e) (after n n k.1) b))
+            ∙ ap₂ (λ d f. scale d f (image_times F (times (exponents_from n n e) (exponents_from n n k.1)) b)) (mul-one (c * 1) ∙ mul-one c) (times-unit _)))
+            (IsSame_trans (IsSame_scale pos c (times (fitted n e) (fitted n k.1)) (image_times-times pos F (exponents_from n n e) (exponents_from n n k.1) b))
             (IsSame_of p _ _ (sym
-            (ap (λ y. scale c (fitted n e) (image_times F (after n n e) y)) (evaluated_key k)
-            ∙ ap (scale c (fitted n e)) (image_times-scale F (after n n e) 1 (fitted n k.1) (image_times F (after n n k.1) b))
+            (ap (λ y. scale c (fitted n e) (image_times F (exponents_from n n e) y)) (evaluated_key k)
+            ∙ ap (scale c (fitted n e)) (image_times-scale F (exponents_from n n e) 1 (fitted n k.1) (image_times F (exponents_from n n k.1) b))
             ∙ scale-scale c 1 (fitted n e) (fitted n k.1) x ∙ ap (λ d. scale d (times (fitted n e) (fitted n k.1)) x) (mul-one c)))))
 
     -- what has the first variables alone is its own value
@@ -146,7 +146,7 @@ module _ {n : ℕ} (F : List (FormalSum n)) where
     evaluated_member : n + n ≤ m → (i : ℕ) → i < n → HasRank 1 (get_or F i []) → IsSame p (evaluated (graph_member p m F i)) []
     evaluated_member le i lt r =
         let f : FormalSum n = get_or F i [] in
-        let y : FormalSum n = ((0, variable n i), 1) ∷ [] in
+        let y : FormalSum n = ((0, variable_monomial n i), 1) ∷ [] in
         IsSame_trans (linear_append p evaluated IsLinear_evaluated (in_second m y) (scale (p - 1) (unit m) (in_first m f)))
         (IsSame_trans (IsSame_append
         (IsSame_trans (evaluated_second le y) (substituted_variable p n i F lt r))
@@ -162,7 +162,7 @@ module _ {n : ℕ} (F : List (FormalSum n)) where
     evaluated_members L w le f =
         IsMember_linear pos evaluated IsLinear_evaluated (graph_list p m F L) L
         (Each_map (λ g. IsMember p L (evaluated g)) (λ g. (c : ℕ) (e : Exponents m) → IsMember p L (evaluated (scale c e g))) (graph_list p m F L)
-        (λ g h c e. IsMember_same L _ _ (IsSame_sym (evaluated-scale c e g)) (IsMember_scale pos L c (fitted n e) _ (IsMember_image_times pos L F (after n n e) (evaluated g) h)))
+        (λ g h c e. IsMember_same L _ _ (IsSame_sym (evaluated-scale c e g)) (IsMember_scale pos L c (fitted n e) _ (IsMember_image_times pos L F (exponents_from n n e) (evaluated g) h)))
         (graph_list_each p m F L (λ g. IsMember p L (evaluated g))
         (λ i lt. IsMember_same L [] _ (IsSame_sym (evaluated_member le i lt (Each_get (HasRank 1) [] F tt f i))) (IsMember_zero p L))
         (Each_map (IsMember p L) (λ g. IsMember p L (evaluated (in_first m g))) L (λ g h. IsMember_same L g _ (IsSame_sym (evaluated_first (omega arith) g)) h) (IsMember_each p L))))

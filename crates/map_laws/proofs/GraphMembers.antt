@@ -17,7 +17,7 @@ use Rattle.map_laws.proofs.Evaluating.{Each_get, IsLinear_in_first, IsLinear_in_
 use Rattle.map_laws.proofs.Modulo.{less, modulo_append, modulo_member, modulo_same, modulo_scale, modulo_trans}
 use Rattle.map_laws.proofs.Places.{behind-more, behind-next, behind-unit, behind-variable, fitted-unit}
 use Rattle.map_laws.proofs.Substituting.{IsLinear_substituted, get_or_next}
-use Rattle.map_laws.specs.Graphs.{behind, fitted, graph_list, graph_member, in_first, in_second, variable}
+use Rattle.map_laws.specs.Graphs.{behind, fitted, graph_list, graph_member, in_first, in_second, variable_monomial}
 use Rattle.map_laws.specs.Substitution.{image_times, substituted}
 
 -- terms at positions below 1 stand at position 0
@@ -35,18 +35,18 @@ HasRank_image_times r F (cons a e) v h = HasRank_power_times r (get_or F 0 []) a
 module _ {n m p : ℕ} (pos : 0 < p) (I : List (FormalSum m)) where
   -- the variable with index k less f
   abbrev equation : ℕ → FormalSum n → FormalSum m
-  equation k f = ((0, variable m k), 1) ∷ scale (p - 1) (unit m) (in_first m f)
+  equation k f = ((0, variable_monomial m k), 1) ∷ scale (p - 1) (unit m) (in_first m f)
 
   -- one variable more
   one_more :
       (k : ℕ) (f u : FormalSum n)
       → HasRank 1 f → HasRank 1 u → IsMember p I (equation k f)
-      → IsMember p I (less p (scale 1 (variable m k) (in_first m u)) (in_first m (product f u)))
+      → IsMember p I (less p (scale 1 (variable_monomial m k) (in_first m u)) (in_first m (product f u)))
   one_more k f u hf hu h =
       let x : FormalSum m = in_first m u in
       IsMember_same I (product x (equation k f)) _
       (IsSame_trans (product_comm p x (equation k f) (IsPolynomial_of x (in_first_rank m 1 u hu)) (refl, IsPolynomial_of _ (HasRank_scale 1 (p - 1) (unit m) (in_first m f) (in_first_rank m 1 f hf))))
-      (IsSame_of p _ _ (ap (λ y. scale 1 (variable m k) x ++ y) (product_scale (p - 1) (unit m) (in_first m f) x ∙ ap (scale (p - 1) (unit m)) (sym (in_first-product m f u))))))
+      (IsSame_of p _ _ (ap (λ y. scale 1 (variable_monomial m k) x ++ y) (product_scale (p - 1) (unit m) (in_first m f) x ∙ ap (scale (p - 1) (unit m)) (sym (in_first-product m f u))))))
       (IsMember_product pos I x (equation k f) h)
 
   -- the second variables from k on, for polynomials whose equations are in the module
@@ -77,17 +77,17 @@ module _ {n m p : ℕ} (pos : 0 < p) (I : List (FormalSum m)) where
       go (suc a) rest =
           let w : FormalSum n = power_times f a v in
           let x : FormalSum m = scale 1 (behind m k (cons a e)) (in_first m u) in
-          modulo_trans pos I (scale 1 (behind m k (cons (suc a) e)) (in_first m u)) (scale 1 (variable m k) (in_first m w)) (in_first m (product f w))
-          (subst (λ y. IsMember p I (less p y (scale 1 (variable m k) (in_first m w))))
-          (scale-scale 1 1 (variable m k) (behind m k (cons a e)) (in_first m u) ∙ ap (λ y. scale 1 y (in_first m u)) (sym (behind-more m k a e (omega arith))))
-          (modulo_scale pos I 1 (variable m k) x (in_first m w) (go a rest)))
+          modulo_trans pos I (scale 1 (behind m k (cons (suc a) e)) (in_first m u)) (scale 1 (variable_monomial m k) (in_first m w)) (in_first m (product f w))
+          (subst (λ y. IsMember p I (less p y (scale 1 (variable_monomial m k) (in_first m w))))
+          (scale-scale 1 1 (variable_monomial m k) (behind m k (cons a e)) (in_first m u) ∙ ap (λ y. scale 1 y (in_first m u)) (sym (behind-more m k a e (omega arith))))
+          (modulo_scale pos I 1 (variable_monomial m k) x (in_first m w) (go a rest)))
           (one_more k f w (ranks 0) (HasRank_power_times 1 f a v (HasRank_image_times 1 (drop 1 F) e u r)) (subst (λ y. IsMember p I (equation y f)) (add-zero k) (h 0 (omega arith))))
 
 module _ {n m p : ℕ} (pos : 0 < p) (F L : List (FormalSum n)) (le : n + n ≤ m) (ranks : Each (HasRank 1) F) where
   members : Each (IsMember p (graph_list p m F L)) (graph_list p m F L)
   members = IsMember_each p (graph_list p m F L)
 
-  equations : (i : ℕ) → i < n → IsMember p (graph_list p m F L) (((0, variable m (n + i)), 1) ∷ scale (p - 1) (unit m) (in_first m (get_or F i [])))
+  equations : (i : ℕ) → i < n → IsMember p (graph_list p m F L) (((0, variable_monomial m (n + i)), 1) ∷ scale (p - 1) (unit m) (in_first m (get_or F i [])))
   equations i lt =
       let q : 0 + i ≡ i = omega arith in
       subst (λ e. IsMember p (graph_list p m F L) (((0, e), 1) ∷ scale (p - 1) (unit m) (in_first m (get_or F i [])))) (behind-variable n m n i lt le)

@@ -26,7 +26,7 @@ use Rattle.operation_laws.specs.Operations.{HasKeptKeys, IsRun, eliminated, elim
 use Rattle.map_laws.proofs.Places.{after-behind, after-times, behind-times, behind-unit}
 use Rattle.map_laws.proofs.SecondOrder.{coefficient_second, compare_second}
 use Rattle.map_laws.proofs.SecondVariables.{in_from_second, in_second_none, second_again, second_key, second_key_again, second_key_kept, second_to}
-use Rattle.map_laws.specs.Graphs.{after, behind, from_second, in_second, of_second}
+use Rattle.map_laws.specs.Graphs.{behind, exponents_from, from_second, in_second, of_second}
 
 -- the first key
 second_head : {n : ℕ} (m : ℕ) (h : FormalSum n) → head_key (in_second m h) ≡ second_key m (head_key h)
@@ -39,9 +39,9 @@ divides_second {n} m k l (e, d) = (behind m n e, ap₂ (λ i x. (i, x)) (ap (λ 
 
 divides_back : {n : ℕ} (m : ℕ) (k l : Key n) → n + n ≤ m → KeyDivides (second_key m k) (second_key m l) → KeyDivides k l
 divides_back {n} m k l le (e, d) = (
-  after n n e,
+  exponents_from n n e,
   ap₂ (λ i x. (i, x)) (ap (λ x. x.0) d)
-      (ap (times (after n n e)) (sym (after-behind m n k.1 le)) ∙ sym (after-times n n e (behind m n k.1)) ∙ ap (λ x. after n n x.1) d ∙ after-behind m n l.1 le),
+      (ap (times (exponents_from n n e)) (sym (after-behind m n k.1 le)) ∙ sym (after-times n n e (behind m n k.1)) ∙ ap (λ x. exponents_from n n x.1) d ∙ after-behind m n l.1 le),
 )
 
 module _ {n m : ℕ} (S : Setting n) (vs : List ℕ) (lawful : IsLawful S) (two : m ≡ n + n) (order : S.compare ≡ top (weighted_grevlex vs)) (size : length vs ≡ n) where
@@ -84,7 +84,7 @@ module _ {n m : ℕ} (S : Setting n) (vs : List ℕ) (lawful : IsLawful S) (two 
     where
       over : (l : Key m) → top (weighted_elimination (vs ++ vs) n) (second_key m k) l ≡ Less → (b : Bool) → has_none_of_first n l ≡ b → IsCongruent S.modulus (coefficient (in_second m a) l) 0
       over l lt true on =
-          let x : Key n = (l.0, after n n l.1) in
+          let x : Key n = (l.0, exponents_from n n l.1) in
           let e : second_key m x ≡ l = second_key_again n l two on in
           let s : S.compare k x ≡ Less = sym (compare_is k x) ∙ ap (top (weighted_elimination (vs ++ vs) n) (second_key m k)) e ∙ lt in
           IsCongruent_trans (IsCongruent_of S.modulus _ _ (ap (coefficient (in_second m a)) (sym e) ∙ coefficient_second m a x le)) (lead.above x s)

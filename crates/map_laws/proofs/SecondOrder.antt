@@ -13,7 +13,7 @@ use Rattle.orders.specs.WeightedOrders.{weighted_elimination, weighted_grevlex}
 use Rattle.operation_laws.proofs.Linear.{weighted_sum-map}
 use Rattle.map_laws.proofs.Places.{after-behind, none_behind}
 use Rattle.map_laws.proofs.SecondVariables.{second_key}
-use Rattle.map_laws.specs.Graphs.{after, behind, fitted, in_second}
+use Rattle.map_laws.specs.Graphs.{behind, exponents_from, fitted, in_second}
 
 other_of_none : {n : ℕ} (e : Exponents n) → other_variables 0 e ≡ e
 other_of_none nil = refl
@@ -86,7 +86,7 @@ compare_second m vs k l size two = ap (λ o. ordering_then o (nat_cmp l.0 k.0)) 
 -- ---- coefficients
 pub unkey : {n : ℕ} (m : ℕ) (k l : Key n) → n + n ≤ m → second_key m k ≡ second_key m l → k ≡ l
 unkey {n} m k l le e =
-    ap₂ (λ a b. (a, b)) (ap (λ x. x.0) e) (sym (after-behind m n k.1 le) ∙ ap (λ x. after n n x.1) e ∙ after-behind m n l.1 le)
+    ap₂ (λ a b. (a, b)) (ap (λ x. x.0) e) (sym (after-behind m n k.1 le) ∙ ap (λ x. exponents_from n n x.1) e ∙ after-behind m n l.1 le)
 
 indicator_second : {n : ℕ} (m : ℕ) (k l : Key n) → n + n ≤ m → indicator (second_key m k) (second_key m l) ≡ indicator k l
 indicator_second {n} m k l le = go (key_cases k l)

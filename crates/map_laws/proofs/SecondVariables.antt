@@ -24,7 +24,7 @@ use Rattle.operation_laws.specs.Operations.{HasKeptKeys, IsRun, eliminated, elim
 use Rattle.map_laws.proofs.Evaluating.{IsLinear_from_second, IsLinear_in_second, from_second-scale, in_second-scale}
 use Rattle.map_laws.proofs.Modulo.{coefficient-less, less}
 use Rattle.map_laws.proofs.Places.{after-behind, behind-after, none_behind}
-use Rattle.map_laws.specs.Graphs.{after, behind, from_second, in_second, of_second}
+use Rattle.map_laws.specs.Graphs.{behind, exponents_from, from_second, in_second, of_second}
 
 -- ---- linear maps and multiples
 pub linear_multiple :
@@ -68,7 +68,7 @@ pub from_in_second : {n : ℕ} (m : ℕ) → n + n ≤ m → (v : FormalSum n) �
 from_in_second m le [] = refl
 from_in_second {n} m le (t ∷ v) = ap₂ (λ e r. ((t.0.0, e), t.1) ∷ r) (after-behind m n t.0.1 le) (from_in_second m le v)
 
-none_true : {m : ℕ} (n : ℕ) (k : Key m) → m ≡ n + n → has_none_of_first n k ≡ true → behind m n (after n n k.1) ≡ k.1
+none_true : {m : ℕ} (n : ℕ) (k : Key m) → m ≡ n + n → has_none_of_first n k ≡ true → behind m n (exponents_from n n k.1) ≡ k.1
 none_true {m} n k two h = behind-after n n k.1 two (same_exponents-true _ (unit m) h)
 
 pub in_from_second :
@@ -84,7 +84,7 @@ second_key {n} m k = (k.0, behind m n k.1)
 pub second_key_kept : {n : ℕ} (m : ℕ) (k : Key n) → has_none_of_first n (second_key m k) ≡ true
 second_key_kept {n} m k = ap (λ e. same_exponents e (unit m)) (none_behind m n k.1) ∙ same_exponents-refl (unit m)
 
-pub second_key_again : {m : ℕ} (n : ℕ) (k : Key m) → m ≡ n + n → has_none_of_first n k ≡ true → second_key m (k.0, after n n k.1) ≡ k
+pub second_key_again : {m : ℕ} (n : ℕ) (k : Key m) → m ≡ n + n → has_none_of_first n k ≡ true → second_key m (k.0, exponents_from n n k.1) ≡ k
 second_key_again n k two h = ap (λ e. (k.0, e)) (none_true n k two h)
 
 pub in_second_none : {n : ℕ} (m : ℕ) (v : FormalSum n) (k : Key m) → has_none_of_first n k ≡ false → coefficient (in_second m v) k ≡ 0
@@ -142,6 +142,6 @@ module _ {n m : ℕ} (S : Setting n) (ws : List ℕ) (L G : List (FormalSum m)) 
       IsMember_same R (from_second n (in_second m v)) v (IsSame_of S.modulus _ _ (from_in_second m (omega (arith, two)) v))
       (IsMember_linear (positive S lawful) (from_second n) (IsLinear_from_second n) K R
       (Each_map (λ g. IsMember S.modulus R (from_second n g)) (λ g. (c : ℕ) (e : Exponents m) → IsMember S.modulus R (from_second n (scale c e g))) K
-      (λ g h c e. IsMember_same R (scale c (after n n e) (from_second n g)) _ (IsSame_of S.modulus _ _ (sym (from_second-scale n c e g))) (IsMember_scale (positive S lawful) R c (after n n e) (from_second n g) h))
+      (λ g h c e. IsMember_same R (scale c (exponents_from n n e) (from_second n g)) _ (IsSame_of S.modulus _ _ (sym (from_second-scale n c e g))) (IsMember_scale (positive S lawful) R c (exponents_from n n e) (from_second n g) h))
       (Each_to_map (IsMember S.modulus R) (from_second n) K (IsMember_each S.modulus R))) (in_second m v)
       (kept_generates T (lawful_elimination ws m n S lawful) L G run.list run.reduced.reduced.normal run.reduced.reduced.basis (has_none_of_first n) (IsDownClosed_elimination T ws n refl) (in_second m v) a (in_second_kept m S.modulus v)))

@@ -14,7 +14,7 @@ use Rattle.operation_laws.proofs.Linear.{Each_to_map, IsLinear, IsLinear_after, 
 use Rattle.operation_laws.proofs.Multiply.{IsLinear_product, product-append, product_assoc, product_scale}
 use Rattle.operation_laws.proofs.Saturate.{IsLinear_power_times, IsMember_power_times, power_times-scale, single_vector}
 use Rattle.operation_laws.specs.Operations.{basis_vector, power_times}
-use Rattle.map_laws.specs.Graphs.{variable}
+use Rattle.map_laws.specs.Graphs.{variable_monomial}
 use Rattle.map_laws.specs.Substitution.{image_times, substituted}
 
 -- ---- products in either order, whatever the positions of the factors
@@ -124,7 +124,7 @@ get_or_next d (x ∷ xs) i = refl
 
 pub image_times-variable :
     {m : ℕ} (n i : ℕ) (F : List (FormalSum m)) (v : FormalSum m) → i < n
-    → image_times F (variable n i) v ≡ product (get_or F i []) v
+    → image_times F (variable_monomial n i) v ≡ product (get_or F i []) v
 image_times-variable zero i F v h = absurd (omega arith)
 image_times-variable (suc n) zero F v h = ap (product (get_or F 0 [])) (image_times-unit n (drop 1 F) v)
 image_times-variable (suc n) (suc i) F v h =
@@ -204,9 +204,9 @@ substituted-product {n} {m} {p} pos F (t ∷ u) v =
 
 pub substituted_variable :
     {m : ℕ} (p n i : ℕ) (F : List (FormalSum m)) → i < n → HasRank 1 (get_or F i [])
-    → IsSame p (substituted F (((0, variable n i), 1) ∷ [])) (get_or F i [])
+    → IsSame p (substituted F (((0, variable_monomial n i), 1) ∷ [])) (get_or F i [])
 substituted_variable p n i F h r =
-    IsSame_of p _ _ (substituted_key F (0, variable n i) ∙ image_times-variable n i F (basis_vector 0) h ∙ product-one (get_or F i []) r)
+    IsSame_of p _ _ (substituted_key F (0, variable_monomial n i) ∙ image_times-variable n i F (basis_vector 0) h ∙ product-one (get_or F i []) r)
 
 pub substituted_constant : {m : ℕ} (p n j : ℕ) (F : List (FormalSum m)) → IsSame p (substituted F (basis_vector {n = n} j)) (basis_vector j)
 substituted_constant p n j F = IsSame_of p _ _ (substituted_key F (j, unit n) ∙ image_times-unit n F (basis_vector j))

@@ -17,16 +17,16 @@ behind zero (suc k) e = nil
 behind (suc m) (suc k) e = cons 0 (behind m k e)
 
 -- the exponents from the one with index k on, n of them
-abbrev pub after : {m : ℕ} → (n k : ℕ) → Exponents m → Exponents n
-after n zero e = fitted n e
-after n (suc k) nil = unit n
-after n (suc k) (cons a e) = after n k e
+abbrev pub exponents_from : {m : ℕ} → (n k : ℕ) → Exponents m → Exponents n
+exponents_from n zero e = fitted n e
+exponents_from n (suc k) nil = unit n
+exponents_from n (suc k) (cons a e) = exponents_from n k e
 
 -- the variable with index i
-abbrev pub variable : (n i : ℕ) → Exponents n
-variable zero i = nil
-variable (suc n) zero = cons 1 (unit n)
-variable (suc n) (suc i) = cons 0 (variable n i)
+abbrev pub variable_monomial : (n i : ℕ) → Exponents n
+variable_monomial zero i = nil
+variable_monomial (suc n) zero = cons 1 (unit n)
+variable_monomial (suc n) (suc i) = cons 0 (variable_monomial n i)
 
 -- v in the first variables of m
 abbrev pub in_first : {n : ℕ} → (m : ℕ) → FormalSum n → FormalSum m
@@ -38,11 +38,11 @@ in_second {n} m v = map (λ t. ((t.0.0, behind m n t.0.1), t.1)) v
 
 -- w in the n variables behind its first n, which it has not
 abbrev pub from_second : {m : ℕ} → (n : ℕ) → FormalSum m → FormalSum n
-from_second n w = map (λ t. ((t.0.0, after n n t.0.1), t.1)) w
+from_second n w = map (λ t. ((t.0.0, exponents_from n n t.0.1), t.1)) w
 
 -- y_i - f_i, for the second variable y_i that stands for the one with index i
 abbrev pub graph_member : {n : ℕ} → (p m : ℕ) → List (FormalSum n) → ℕ → FormalSum m
-graph_member {n} p m F i = ((0, behind m n (variable n i)), 1) ∷ scale (p - 1) (unit m) (in_first m (get_or F i []))
+graph_member {n} p m F i = ((0, behind m n (variable_monomial n i)), 1) ∷ scale (p - 1) (unit m) (in_first m (get_or F i []))
 
 -- y_1 - f_1, .., y_n - f_n, and the members of L in the first variables
 abbrev pub graph_list : {n : ℕ} → (p m : ℕ) → (F L : List (FormalSum n)) → List (FormalSum m)

@@ -23,12 +23,12 @@ abbrev pub members_of : (n : ℕ) → List CodeMember → List (Member n)
 members_of n ms = map (λ m. member_of n m) ms
 
 -- a row: it has no multiple of a generator
-abbrev pub row_of : (n : ℕ) → CodeReduct → Member n
-row_of n row = record { vector = sum_of n row.vector; multiple = []; products = sum_of n row.products }
+abbrev pub reduct_row_of : (n : ℕ) → CodeReduct → Member n
+reduct_row_of n row = record { vector = sum_of n row.vector; multiple = []; products = sum_of n row.products }
 
 -- each of them
-abbrev pub rows_of : (n : ℕ) → List CodeReduct → List (Member n)
-rows_of n rows = map (λ row. row_of n row) rows
+abbrev pub reduct_rows_of : (n : ℕ) → List CodeReduct → List (Member n)
+reduct_rows_of n rows = map (λ row. reduct_row_of n row) rows
 
 -- the row is of vectors of the ring: its vector of the rank, its products of the first k members
 pub record IsRowOver (ring : Ring) (rank k : ℕ) (row : CodeReduct) : Type 0 where

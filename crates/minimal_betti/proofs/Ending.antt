@@ -18,7 +18,7 @@ use Rattle.minimal_laws.proofs.SameMaps.{same_exact, same_first, same_graded, sa
 use Rattle.minimal_laws.proofs.Searching.{cancellation_exists, same_maps_itself}
 use Rattle.minimal_laws.specs.Cancellation.{AreSameMaps, IsCancelled, done, keep, trimmed}
 use Rattle.minimal_laws.specs.Gradings.{AreExact, AreGraded, AreHomogeneous, GradedMap, GradedMaps, IsHomogeneous, first_columns, graded_by_leads}
-use Rattle.minimal_laws.specs.Minimal.{HasConstant, IsMinimal, Presents, difference}
+use Rattle.minimal_laws.specs.Minimal.{HasConstant, IsMinimal, Presents, difference_modulo}
 use Rattle.term_lists.specs.Rings.{ring_comparison, setting, variables}
 use Rattle.term_lists.specs.Vectors.{AreVectorsOver, sums_of}
 use Rattle.term_lists.specs.declared.key.Key.{Key as CodeKey}
@@ -64,7 +64,7 @@ module _ {n p : ℕ} (pos : 0 < p) (ws rows : List ℕ) (maps : List (GradedMap 
 
   twice :
       (v : FormalSum n) → IsOfRank p (length rows) v
-      → IsSame p (difference p v (combination (units_from 0 (length rows)) (combination (units_from 0 (length rows)) v))) []
+      → IsSame p (difference_modulo p v (combination (units_from 0 (length rows)) (combination (units_from 0 (length rows)) v))) []
   twice v r =
       let a = combination_units pos (length rows) v r in
       let b : IsSame p (combination (units_from 0 (length rows)) (combination (units_from 0 (length rows)) v)) v =

@@ -35,16 +35,16 @@ abbrev pub HasKey : {n : ℕ} → FormalSum n → Key n → Type 0
 HasKey v k = Contains (map (λ t. t.0) v) k
 
 -- the member of a product
-abbrev pub member_of : (n : ℕ) → List (List (CodeKey × ℕ)) → KeptProduct → FormalSum n
-member_of n members s = sum_of n (get_or members s.0 [])
+abbrev pub kept_product_member : (n : ℕ) → List (List (CodeKey × ℕ)) → KeptProduct → FormalSum n
+kept_product_member n members s = sum_of n (get_or members s.0 [])
 
 -- the lead of a product
-abbrev pub product_lead : (n : ℕ) → List (List (CodeKey × ℕ)) → KeptProduct → Key n
-product_lead n members s = shift (exponents_of n s.1.exponents) (head_key (member_of n members s))
+abbrev pub kept_product_lead : (n : ℕ) → List (List (CodeKey × ℕ)) → KeptProduct → Key n
+kept_product_lead n members s = shift (exponents_of n s.1.exponents) (head_key (kept_product_member n members s))
 
 -- k is a key of a product
 abbrev pub IsInProduct : (n : ℕ) → List (List (CodeKey × ℕ)) → Key n → KeptProduct → Type 0
-IsInProduct n members k s = (l : Key n) × HasKey (member_of n members s) l × (k ≡ shift (exponents_of n s.1.exponents) l)
+IsInProduct n members k s = (l : Key n) × HasKey (kept_product_member n members s) l × (k ≡ shift (exponents_of n s.1.exponents) l)
 
 -- k is a key of the vector or of an earlier product
 abbrev pub IsMet : (n : ℕ) → FormalSum n → List (List (CodeKey × ℕ)) → List KeptProduct → Key n → Type 0
@@ -52,7 +52,7 @@ IsMet n v members earlier k = IsMetBy (HasKey v) (IsInProduct n members) earlier
 
 -- the leads of these products are met, each by the vector or by the products before it
 abbrev pub AreMet : (n : ℕ) → FormalSum n → List (List (CodeKey × ℕ)) → List KeptProduct → List KeptProduct → Type 0
-AreMet n v members earlier products = AreMetInTurn (HasKey v) (IsInProduct n members) (product_lead n members) earlier products
+AreMet n v members earlier products = AreMetInTurn (HasKey v) (IsInProduct n members) (kept_product_lead n members) earlier products
 
 -- the lead of each member: the key of its first term
 abbrev pub lead_at : (n : ℕ) → List (List (CodeKey × ℕ)) → ℕ → Key n
@@ -66,12 +66,12 @@ pub record IsPairStart (n : ℕ) (members : List (List (CodeKey × ℕ))) (i j :
   pub right_some : 0 < length (get_or members j [])
   pub apart : i ≡ j → ⊥
   pub position : (lead_at n members i).0 ≡ (lead_at n members j).0
-  pub lcm : product_lead n members first ≡ key_lcm (lead_at n members i) (lead_at n members j)
+  pub lcm : kept_product_lead n members first ≡ key_lcm (lead_at n members i) (lead_at n members j)
 
 -- how the first product is met, and that nothing stands behind it where the trail is of one product
 abbrev pub IsStart : (n : ℕ) → TrailStart → List (CodeKey × ℕ) → List (List (CodeKey × ℕ)) → KeptProduct → List KeptProduct → Type 0
 IsStart n (Pair i j) vector members first later = IsPairStart n members i j first × (vector ≡ [])
-IsStart n Term vector members first later = HasKey (sum_of n vector) (product_lead n members first)
+IsStart n Term vector members first later = HasKey (sum_of n vector) (kept_product_lead n members first)
 IsStart n Product vector members first later = HasMonomial vector first.1 × (later ≡ [])
 
 -- the last of a list that is not empty

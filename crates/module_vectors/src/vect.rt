@@ -9,7 +9,7 @@ ghost use Rattle.term_lists.specs.Vectors.{sum_of, sums_of, IsMonomialOver, IsVe
 ghost use Rattle.term_lists.specs.Vectors.{StandsFor, HasPositions, IsMonicOf, IsTerm};
 ghost use Rattle.term_lists.specs.Multiples.{rescaled};
 ghost use Rattle.term_lists.specs.Stops.{Fits, ScaledStops};
-ghost use Rattle.module_vectors.specs.Products.{sum_of_products};
+ghost use Rattle.module_vectors.specs.Products.{sum_of_product_list};
 ghost use Rattle.module_vectors.specs.ProductStops.{ProductsStop, ProductsFit, CombinationStops, CombinationFits};
 
 use crate::sums::{products_of, sum_terms};
@@ -226,7 +226,7 @@ impl Vect {
         requires factors { Each (λ x. (x.residue < (F.over frame.now).modulus.value) × IsMonomialOver (F.over frame.now) x.monomial.now) products.now }
         requires vectors { Each (λ x. IsVectorOver (F.over frame.now) (F.compare frame.now) x.vector.now) products.now }
         ensures vector { IfOk result (λ v. IsVectorOver (F.over frame.now) (F.compare frame.now) v) }
-        ensures sum { IfOk result (λ v. StandsFor (F.over frame.now) v (sum_of_products (variables (F.over frame.now)) products.now)) }
+        ensures sum { IfOk result (λ v. StandsFor (F.over frame.now) v (sum_of_product_list (variables (F.over frame.now)) products.now)) }
         ensures fits { OnOk result (ProductsFit products.now) }
         ensures stop { IfErr result (ProductsStop products.now) }
     {
@@ -247,7 +247,7 @@ impl Vect {
         requires factors { Each (λ x. (x.residue < (F.over frame.now).modulus.value) × IsMonomialOver (F.over frame.now) x.monomial.now) products.now }
         requires vectors { Each (λ x. IsVectorOver (F.over frame.now) (F.compare frame.now) x.vector.now) products.now }
         ensures vector { IfOk result (λ v. IsVectorOver (F.over frame.now) (F.compare frame.now) v) }
-        ensures sum { IfOk result (λ v. StandsFor (F.over frame.now) v (sum_of_products (variables (F.over frame.now)) products.now)) }
+        ensures sum { IfOk result (λ v. StandsFor (F.over frame.now) v (sum_of_product_list (variables (F.over frame.now)) products.now)) }
         ensures fits { OnOk result (ProductsFit products.now) }
         ensures stop { IfErr result (ProductsStop products.now) }
     {

@@ -6,7 +6,7 @@ use Rattle.monomials.specs.Exponents.{cons, exponents_of, unit}
 use Rattle.monomial_orders.specs.Differences.{EndsDifferences}
 use Rattle.monomial_orders.specs.Kept.{Monomial}
 use Rattle.monomial_orders.specs.Monomials.{IsMonomial, IsPlaceByPlace, variable}
-use Rattle.monomial_orders.specs.Storage.{IsFilled, IsKept, IsStored, degree_kept, monomial_of, places_of, variables_of}
+use Rattle.monomial_orders.specs.Storage.{IsFilled, IsKept, IsStored, degree_kept, monomial_of, places_of, stored_variables}
 use Rattle.monomial_orders.specs.declared.storage.Stored.{Stored}
 
 -- n variables have n exponents
@@ -15,10 +15,10 @@ count n d s h = length-take-le n (places_of s) (omega (arith, h.filled.long))
 
 -- a monomial that is shown of what is stored is stored so
 pub stored_as :
-    (s : Stored) (m : Monomial) → monomial_of (variables_of s) (degree_kept s) s ≡ m → IsKept (variables_of s) (degree_kept s) s
+    (s : Stored) (m : Monomial) → monomial_of (stored_variables s) (degree_kept s) s ≡ m → IsKept (stored_variables s) (degree_kept s) s
     → IsStored m s
 stored_as s m e h =
-    let n = variables_of s in
+    let n = stored_variables s in
     let c = count n (degree_kept s) s h in
     let base : IsStored (monomial_of n (degree_kept s) s) s = record {
       kept = subst (λ k. IsKept k (degree_kept s) s) (sym c) h;
@@ -28,13 +28,13 @@ stored_as s m e h =
     subst (λ (m : Monomial). IsStored m s) e base
 
 -- what is kept of n variables is kept of those that are stored
-pub kept_at : (n d : ℕ) (s : Stored) → variables_of s ≡ n → IsKept n d s → IsKept (variables_of s) d s
+pub kept_at : (n d : ℕ) (s : Stored) → stored_variables s ≡ n → IsKept n d s → IsKept (stored_variables s) d s
 kept_at n d s counted h = subst (λ k. IsKept k d s) (sym counted) h
 
 -- the same places again, of the same degree
 pub kept_again :
-    (m : Monomial) (s t : Stored) → IsStored m s → places_of t ≡ places_of s → variables_of t ≡ length m.exponents → degree_kept t ≡ degree_kept s
-    → IsKept (variables_of t) (degree_kept t) t
+    (m : Monomial) (s t : Stored) → IsStored m s → places_of t ≡ places_of s → stored_variables t ≡ length m.exponents → degree_kept t ≡ degree_kept s
+    → IsKept (stored_variables t) (degree_kept t) t
 kept_again m s t h e counted d =
     kept_at (length m.exponents) (degree_kept t) t counted
     (subst (λ d. IsKept (length m.exponents) d t) (sym (d ∙ h.degree))
@@ -50,8 +50,8 @@ kept_again m s t h e counted d =
     }))
 
 pub shown_again :
-    (m : Monomial) (s t : Stored) → IsStored m s → places_of t ≡ places_of s → variables_of t ≡ length m.exponents → degree_kept t ≡ degree_kept s
-    → monomial_of (variables_of t) (degree_kept t) t ≡ m
+    (m : Monomial) (s t : Stored) → IsStored m s → places_of t ≡ places_of s → stored_variables t ≡ length m.exponents → degree_kept t ≡ degree_kept s
+    → monomial_of (stored_variables t) (degree_kept t) t ≡ m
 shown_again m s t h e counted d =
     let make : List ℕ → ℕ → Monomial = λ x d. record { exponents = x; degree = d } in
     ap₂ make (ap₂ take counted e ∙ sym h.front) (d ∙ h.degree)
@@ -75,7 +75,7 @@ filled_at a b t e h = subst (λ k. IsFilled k t) (sym e) h.kept.filled
 -- where f gives 0 of two zeros, what it gives is filled
 pub filled_by :
     (f : ℕ → ℕ → ℕ) (n : ℕ) (s t u : Stored) → f 0 0 ≡ 0 → IsFilled n s → IsFilled n t
-    → IsPlaceByPlace f (places_of s) (places_of t) (places_of u) → variables_of u ≡ n → IsFilled n u
+    → IsPlaceByPlace f (places_of s) (places_of t) (places_of u) → stored_variables u ≡ n → IsFilled n u
 filled_by f n s t u z hs ht p counted = record {
   variables = counted;
   long = p.variables ∙ hs.long;
@@ -114,7 +114,7 @@ places_shown f a b s t u e ha hb p =
 pub kept_by :
     (f : ℕ → ℕ → ℕ) (a b : Monomial) (s t u : Stored) (d : ℕ) → f 0 0 ≡ 0 → length a.exponents ≡ length b.exponents
     → IsStored a s → IsStored b t → IsPlaceByPlace f (places_of s) (places_of t) (places_of u)
-    → variables_of u ≡ length a.exponents → ((k : ℕ) → get_or (places_of u) k 0 < 65536)
+    → stored_variables u ≡ length a.exponents → ((k : ℕ) → get_or (places_of u) k 0 < 65536)
     → ((k : ℕ) → get_or (places_of u) k 0 ≤ d) → d < 4294967296 → IsKept (length a.exponents) d u
 kept_by f a b s t u d z e ha hb p counted bounded held narrow = record {
   filled = filled_by f (length a.exponents) s t u z ha.kept.filled (filled_at a b t e hb) p counted;
@@ -213,7 +213,7 @@ same_front xs ps long h =
         get_or_past (take (length xs) ps) k 0 (omega arith) ∙ sym (get_or_past xs k 0 le)
 
 pub kept_of :
-    (d : ℕ) (s : Stored) (xs : List ℕ) → variables_of s ≡ length xs → length (places_of s) ≡ max 16 (length xs) → d < 4294967296
+    (d : ℕ) (s : Stored) (xs : List ℕ) → stored_variables s ≡ length xs → length (places_of s) ≡ max 16 (length xs) → d < 4294967296
     → ((k : ℕ) → get_or (places_of s) k 0 ≡ get_or xs k 0) → ((k : ℕ) → get_or (places_of s) k 0 < 65536)
     → ((k : ℕ) → get_or xs k 0 ≤ d) → IsKept (length xs) d s
 kept_of d s xs counted long small same bounded held = record {
@@ -225,7 +225,7 @@ kept_of d s xs counted long small same bounded held = record {
 
 -- the monomial 1
 pub kept_at_zero :
-    (n : ℕ) (s : Stored) → variables_of s ≡ n → length (places_of s) ≡ max 16 n
+    (n : ℕ) (s : Stored) → stored_variables s ≡ n → length (places_of s) ≡ max 16 n
     → ((k : ℕ) → get_or (places_of s) k 0 ≡ 0) → IsKept n 0 s
 kept_at_zero n s counted long h = record {
   filled = record { variables = counted; long = long; rest = λ k le. h k };
@@ -249,7 +249,7 @@ zeros_shown n s long h = record {
 
 -- a variable
 pub kept_of_one :
-    (n i d : ℕ) (s : Stored) → variables_of s ≡ n → length (places_of s) ≡ max 16 n → d < 4294967296 → i < n → 0 < d
+    (n i d : ℕ) (s : Stored) → stored_variables s ≡ n → length (places_of s) ≡ max 16 n → d < 4294967296 → i < n → 0 < d
     → get_or (places_of s) i 0 ≡ 1 → ((k : ℕ) → (k ≡ i → ⊥) → get_or (places_of s) k 0 ≡ 0) → IsKept n d s
 kept_of_one n i d s counted long small lt pos one others = record {
   filled = record { variables = counted; long = long; rest = λ k le. others k (λ e. absurd (omega (arith, le, lt, e))) };

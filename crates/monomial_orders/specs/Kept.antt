@@ -1,12 +1,16 @@
 -- What contracts see of a monomial
-use Rattle.std.specs.Prelude.{List, length, slice_index, ℕ, ◌<◌, ◌≡◌}
-use Rattle.monomials.specs.Exponents.{exponents_of}
+use Rattle.std.specs.Prelude.{List, length, map, slice_index, ℕ, ◌<◌, ◌≡◌}
+use Rattle.monomials.specs.Exponents.{Exponents, exponents_of}
 use Rattle.monomials.specs.Weights.{weighted_degree}
 
 -- a monomial: its exponents, and the degree that is kept with them
 pub record Monomial : Type 0 where
   pub exponents : List ℕ
   pub degree : ℕ
+
+-- the monomials in n variables that the code's are
+abbrev pub monomials : (n : ℕ) → List Monomial → List (Exponents n)
+monomials n ms = map (λ m. exponents_of n m.exponents) ms
 
 -- m is a monomial in n variables of these weights: an exponent for each, and the degree by the weights
 pub record IsWeighed (n : ℕ) (ws : List ℕ) (m : Monomial) : Type 0 where

@@ -8,8 +8,8 @@ abbrev pub places_of : Stored → List ℕ
 places_of s = s.places.items
 
 -- the number of variables
-abbrev pub variables_of : Stored → ℕ
-variables_of s = s.variables
+abbrev pub stored_variables : Stored → ℕ
+stored_variables s = s.variables
 
 -- the degree that is kept
 abbrev pub degree_kept : Stored → ℕ
@@ -17,7 +17,7 @@ degree_kept s = s.degree
 
 -- the places of n variables: at least 16, and 0 behind the last variable
 pub record IsFilled (n : ℕ) (s : Stored) : Type 0 where
-  pub variables : variables_of s ≡ n
+  pub variables : stored_variables s ≡ n
   pub long : length (places_of s) ≡ max 16 n
   pub rest : (k : ℕ) → n ≤ k → slice_index (places_of s) k ≡ 0
 

@@ -5,7 +5,7 @@ ghost use Rattle.monomials.specs.Exponents.{Divides, IsWithin, exponents_of, lcm
 ghost use Rattle.monomials.specs.Weights.{weighted_degree};
 ghost use Rattle.monomial_orders.specs.Differences.{EndsDifferences};
 ghost use Rattle.monomial_orders.specs.Kept.{HaveCommonWeights, IsWeighed};
-ghost use Rattle.monomial_orders.specs.Storage.{IsFilled, IsKept, IsStored, monomial_of, places_of, variables_of};
+ghost use Rattle.monomial_orders.specs.Storage.{IsFilled, IsKept, IsStored, monomial_of, places_of, stored_variables};
 ghost use Rattle.monomial_orders.specs.Monomials.{IsMonomial, IsPlaceByPlace, IsQuotient, StopsAbove, variable};
 
 use crate::places::total;
@@ -39,13 +39,13 @@ impl Drop for Mono {
 
 impl Model for Mono {
     ghost use Rattle.monomial_orders.specs.Kept.{Monomial};
-    ghost use Rattle.monomial_orders.specs.Storage.{IsKept, degree_kept, monomial_of, variables_of};
+    ghost use Rattle.monomial_orders.specs.Storage.{IsKept, degree_kept, monomial_of, stored_variables};
 
     ghost Value = { Monomial };
 
-    ghost view = { λ m. monomial_of (variables_of m.stored) (degree_kept m.stored) m.stored };
+    ghost view = { λ m. monomial_of (stored_variables m.stored) (degree_kept m.stored) m.stored };
 
-    ghost invariant = { λ m. IsKept (variables_of m.stored) (degree_kept m.stored) m.stored };
+    ghost invariant = { λ m. IsKept (stored_variables m.stored) (degree_kept m.stored) m.stored };
 }
 
 // The degree of these exponents of n variables by the weights.
@@ -63,8 +63,8 @@ fn degree_of(weights: &Weights, n: usize, stored: &Stored) -> u128
 impl Mono {
     // The monomial that is stored so, with this degree.
     fn keep(stored: Stored, degree: u128) -> Mono
-        requires { IsKept (variables_of stored) degree stored }
-        ensures { result ≡ monomial_of (variables_of stored) degree stored }
+        requires { IsKept (stored_variables stored) degree stored }
+        ensures { result ≡ monomial_of (stored_variables stored) degree stored }
     {
         Mono {
             stored: stored.with_degree(degree),

@@ -3,7 +3,7 @@ ghost use Rattle.std.specs.Prelude.{ℕ, ◌≡◌, ◌≢◌, ◌<◌, ◌≤�
 ghost use Rattle.std.specs.Prelude.{IsTrue, IsOk, IfOk};
 ghost use Rattle.monomial_orders.specs.Differences.{EndsDifferences};
 ghost use Rattle.monomial_orders.specs.Monomials.{IsPlaceByPlace};
-ghost use Rattle.monomial_orders.specs.Storage.{IsFilled, degree_kept, places_of, variables_of};
+ghost use Rattle.monomial_orders.specs.Storage.{IsFilled, degree_kept, places_of, stored_variables};
 
 use crate::places::{
     add_places, are_apart, copy_places, count, differing_places, divides_places, max_places,
@@ -41,7 +41,7 @@ impl Drop for Stored {
 // So many variables at 16 places. The degree is set later, by `with_degree`.
 fn stored_few(alloc: Global, places: [u16; 16], n: usize) -> Stored
     requires { n ≤ 16 }
-    ensures variables { variables_of result ≡ n }
+    ensures variables { stored_variables result ≡ n }
     ensures places { places_of result ≡ places }
 {
     Stored {
@@ -53,7 +53,7 @@ fn stored_few(alloc: Global, places: [u16; 16], n: usize) -> Stored
 
 // More than 16 variables at a place each. The degree is set later, by `with_degree`.
 fn stored_many(places: SmallVec<u16, 16>) -> Result<Stored, AllocError>
-    ensures variables { IfOk result (λ s. variables_of s ≡ length places.items) }
+    ensures variables { IfOk result (λ s. stored_variables s ≡ length places.items) }
     ensures places { IfOk result (λ s. places_of s ≡ places.items) }
 {
     let n = places.len();
@@ -77,7 +77,7 @@ impl Stored {
 
     /// The number of variables.
     pub(crate) fn variables(&self) -> usize
-        ensures { result ≡ variables_of self.now }
+        ensures { result ≡ stored_variables self.now }
     {
         self.variables as usize
     }
@@ -93,7 +93,7 @@ impl Stored {
     /// The same places with this degree.
     pub(crate) fn with_degree(self, degree: u128) -> Stored
         requires { degree < 4294967296 }
-        ensures variables { variables_of result ≡ variables_of self }
+        ensures variables { stored_variables result ≡ stored_variables self }
         ensures places { places_of result ≡ places_of self }
         ensures degree { degree_kept result ≡ degree }
     {
@@ -124,11 +124,11 @@ impl Stored {
     /// The same places again.
     #[inline]
     pub(crate) fn try_copy(&self, alloc: Global) -> Result<Stored, AllocError>
-        requires { length (places_of self.now) ≡ max 16 (variables_of self.now) }
-        ensures variables { IfOk result (λ s. variables_of s ≡ variables_of self.now) }
+        requires { length (places_of self.now) ≡ max 16 (stored_variables self.now) }
+        ensures variables { IfOk result (λ s. stored_variables s ≡ stored_variables self.now) }
         ensures places { IfOk result (λ s. places_of s ≡ places_of self.now) }
         ensures degree { IfOk result (λ s. degree_kept s ≡ degree_kept self.now) }
-        ensures no_memory { variables_of self.now ≤ 16 → IsOk result }
+        ensures no_memory { stored_variables self.now ≤ 16 → IsOk result }
     {
         if self.variables <= 16 {
             return Ok(Stored {
@@ -147,7 +147,7 @@ impl Stored {
 
 /// These exponents, with zeros behind them.
 pub(crate) fn store(alloc: Global, exponents: &[u16]) -> Result<Stored, AllocError>
-    ensures variables { IfOk result (λ s. variables_of s ≡ length exponents.now) }
+    ensures variables { IfOk result (λ s. stored_variables s ≡ length exponents.now) }
     ensures long { IfOk result (λ s. length (places_of s) ≡ max 16 (length exponents.now)) }
     ensures places { IfOk result (λ s. (k : ℕ) → slice_index (places_of s) k ≡ slice_index exponents.now k) }
     ensures bounded { IfOk result (λ s. (k : ℕ) → slice_index (places_of s) k < 65536) }
@@ -161,7 +161,7 @@ pub(crate) fn store(alloc: Global, exponents: &[u16]) -> Result<Stored, AllocErr
 
 /// 0 and then these exponents, with zeros behind them.
 pub(crate) fn store_behind_zero(alloc: Global, exponents: &[u16]) -> Result<Stored, AllocError>
-    ensures variables { IfOk result (λ s. variables_of s ≡ length (0 ∷ exponents.now)) }
+    ensures variables { IfOk result (λ s. stored_variables s ≡ length (0 ∷ exponents.now)) }
     ensures long { IfOk result (λ s. length (places_of s) ≡ max 16 (length (0 ∷ exponents.now))) }
     ensures places { IfOk result (λ s. (k : ℕ) → slice_index (places_of s) k ≡ slice_index (0 ∷ exponents.now) k) }
     ensures bounded { IfOk result (λ s. (k : ℕ) → slice_index (places_of s) k < 65536) }
@@ -176,7 +176,7 @@ pub(crate) fn store_behind_zero(alloc: Global, exponents: &[u16]) -> Result<Stor
 
 /// The places of n variables, all 0.
 pub(crate) fn zeros(alloc: Global, n: usize) -> Result<Stored, AllocError>
-    ensures variables { IfOk result (λ s. variables_of s ≡ n) }
+    ensures variables { IfOk result (λ s. stored_variables s ≡ n) }
     ensures long { IfOk result (λ s. length (places_of s) ≡ max 16 n) }
     ensures places { IfOk result (λ s. (k : ℕ) → slice_index (places_of s) k ≡ 0) }
     ensures no_memory { n ≤ 16 → IsOk result }
@@ -190,7 +190,7 @@ pub(crate) fn zeros(alloc: Global, n: usize) -> Result<Stored, AllocError>
 /// The places of n variables, 1 at i and else 0.
 pub(crate) fn one_at(alloc: Global, n: usize, i: usize) -> Result<Stored, AllocError>
     requires { i < n }
-    ensures variables { IfOk result (λ s. variables_of s ≡ n) }
+    ensures variables { IfOk result (λ s. stored_variables s ≡ n) }
     ensures long { IfOk result (λ s. length (places_of s) ≡ max 16 n) }
     ensures one { IfOk result (λ s. slice_index (places_of s) i ≡ 1) }
     ensures others { IfOk result (λ s. (k : ℕ) → k ≢ i → slice_index (places_of s) k ≡ 0) }
@@ -211,7 +211,7 @@ pub(crate) fn sums(alloc: Global, n: usize, a: &Stored, b: &Stored) -> Result<St
     requires left { IsFilled n a.now }
     requires right { IsFilled n b.now }
     requires room { (k : ℕ) → slice_index (places_of a.now) k + slice_index (places_of b.now) k ≤ 65535 }
-    ensures variables { IfOk result (λ s. variables_of s ≡ n) }
+    ensures variables { IfOk result (λ s. stored_variables s ≡ n) }
     ensures places { IfOk result (λ s. IsPlaceByPlace ◌+◌ (places_of a.now) (places_of b.now) (places_of s)) }
     ensures bounded { IfOk result (λ s. (k : ℕ) → slice_index (places_of s) k < 65536) }
     ensures no_memory { n ≤ 16 → IsOk result }
@@ -226,7 +226,7 @@ pub(crate) fn sums(alloc: Global, n: usize, a: &Stored, b: &Stored) -> Result<St
 pub(crate) fn maxima(alloc: Global, n: usize, a: &Stored, b: &Stored) -> Result<Stored, AllocError>
     requires left { IsFilled n a.now }
     requires right { IsFilled n b.now }
-    ensures variables { IfOk result (λ s. variables_of s ≡ n) }
+    ensures variables { IfOk result (λ s. stored_variables s ≡ n) }
     ensures places { IfOk result (λ s. IsPlaceByPlace max (places_of a.now) (places_of b.now) (places_of s)) }
     ensures bounded { IfOk result (λ s. (k : ℕ) → slice_index (places_of s) k < 65536) }
     ensures no_memory { n ≤ 16 → IsOk result }
@@ -247,7 +247,7 @@ pub(crate) fn differences(
     requires left { IsFilled n a.now }
     requires right { IsFilled n b.now }
     requires room { (k : ℕ) → slice_index (places_of b.now) k ≤ slice_index (places_of a.now) k }
-    ensures variables { IfOk result (λ s. variables_of s ≡ n) }
+    ensures variables { IfOk result (λ s. stored_variables s ≡ n) }
     ensures places { IfOk result (λ s. IsPlaceByPlace ◌-◌ (places_of a.now) (places_of b.now) (places_of s)) }
     ensures bounded { IfOk result (λ s. (k : ℕ) → slice_index (places_of s) k < 65536) }
     ensures no_memory { n ≤ 16 → IsOk result }

@@ -17,7 +17,7 @@ use Rattle.bases.proofs.NormalForms.{IsNormal_lead}
 use Rattle.bases.specs.Leads.{IsMonicLead, IsNormal, head_key, leads}
 use Rattle.bases.specs.Settings.{IsLawful}
 use Rattle.monomial_orders.specs.Comparisons.{comparison}
-use Rattle.monomial_orders.specs.Kept.{IsWeighed, Monomial}
+use Rattle.monomial_orders.specs.Kept.{IsWeighed, Monomial, monomials}
 use Rattle.monomial_orders.specs.Laws.{comparison_order}
 use Rattle.term_lists.proofs.NormalVectors.{residues_of}
 use Rattle.term_lists.specs.Rings.{ring_comparison, setting}
@@ -41,7 +41,7 @@ use Rattle.order_change.proofs.Sorting.{ascending_distinct}
 use Rattle.order_change.proofs.Tails.{coefficient_of, key_compared, length_sum, term_at}
 use Rattle.order_change.specs.Changing.{AreNewMembers, AreNewStandard}
 use Rattle.order_change.specs.Forms.{AreResidues, IsRowForm, monomial_vector}
-use Rattle.order_change.specs.Lists.{AreMonomials, monomials}
+use Rattle.order_change.specs.Lists.{AreMonomials}
 use Rattle.order_change.specs.Products.{IsAscending}
 use Rattle.order_change.specs.Rows.{AreRows, AreSame, IsCleared, IsPivotRow}
 use Rattle.order_change.specs.declared.rows.Row.{Row}

@@ -7,7 +7,7 @@ use Rattle.monomials.specs.Exponents.{Exponents, exponents_of, unit}
 use Rattle.formal_sums.specs.FormalSums.{Each, FormalSum, Key}
 use Rattle.bases.specs.Leads.{IsMonicLead, head_key, leads}
 use Rattle.bases.specs.Settings.{IsLawful, Setting}
-use Rattle.monomial_orders.specs.Kept.{IsWeighed, Monomial}
+use Rattle.monomial_orders.specs.Kept.{IsWeighed, Monomial, monomials}
 use Rattle.term_lists.specs.Rings.{ring_comparison, setting, variables}
 use Rattle.term_lists.specs.Vectors.{AreVectorsOver, IsTerm, IsVectorOver, sum_of, sums_of}
 use Rattle.term_lists.specs.declared.key.Key.{Key as CodeKey}
@@ -16,7 +16,6 @@ use Rattle.groebner_iface.specs.Runs.{IsReducedBasisOf}
 use Rattle.change_laws.proofs.Pushing.{at_new, at_old}
 use Rattle.change_laws.specs.Standard.{lead_monomials}
 use Rattle.order_change.proofs.Items.{length_monomials, monomials_push}
-use Rattle.order_change.specs.Lists.{monomials}
 
 monic_some : {n : ℕ} (S : Setting n) (v : List (CodeKey × ℕ)) (k : Key n) → 1 < S.modulus → IsMonicLead S (sum_of n v) k → 0 < length v
 monic_some S [] k big h = absurd (IsCongruent_nonzero S.modulus 1 (omega arith) big (IsCongruent_sym h.one))

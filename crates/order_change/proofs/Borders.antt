@@ -6,7 +6,7 @@ use Rattle.monomials.proofs.Monomials.{times-unit, times_assoc, times_cancel, ti
 use Rattle.monomials.specs.Exponents.{Divides, Exponents, cons, exponents_of, head, nil, tail, times, unit}
 use Rattle.formal_sums.specs.FormalSums.{Each, FormalSum, scale}
 use Rattle.monomial_orders.specs.Comparisons.{comparison}
-use Rattle.monomial_orders.specs.Kept.{Monomial}
+use Rattle.monomial_orders.specs.Kept.{Monomial, monomials}
 use Rattle.monomial_orders.specs.Laws.{comparison_order}
 use Rattle.term_lists.specs.Vectors.{sums_of}
 use Rattle.term_lists.specs.declared.key.Key.{Key as CodeKey}
@@ -21,8 +21,7 @@ use Rattle.order_change.proofs.Items.{length_monomials}
 use Rattle.order_change.proofs.Tails.{given_positive}
 use Rattle.order_change.proofs.Orders.{less_not_back, less_not_itself, less_of_not, less_times, less_trans, variable_above}
 use Rattle.order_change.specs.Forms.{AreProductsOf, AreResidues, IsRowForm}
-use Rattle.order_change.specs.Lists.{monomials}
-use Rattle.order_change.specs.Products.{IsAscending, IsCandidate, IsLeast, product_at}
+use Rattle.order_change.specs.Products.{IsAscending, IsCandidate, IsLeast, variable_product_at}
 use Rattle.order_change.specs.Tables.{AreFormsOver, IsFormOver, IsBasisGiven, IsRowNormalForm, IsSmaller, IsSpare}
 use Rattle.order_change.specs.declared.products.Candidate.{Candidate}
 
@@ -98,7 +97,7 @@ within d p row t h some = go (cases_lt t d)
 module _ {n : ℕ} (compare : Exponents n → Exponents n → Ordering) (o : IsMonomialOrder compare) (p : ℕ) (pos : 0 < p) (F : List (FormalSum n)) (L B : List (Exponents n)) (standard : AreStandard L B) (rise : IsAscending compare B) where
   -- the product at i and k without its spare variable
   pub smaller_exists :
-      (i k j : ℕ) → i < n → k < length B → IsSpare n L (product_at n B i k) j → (h : ℕ) × IsSmaller n B k j h
+      (i k j : ℕ) → i < n → k < length B → IsSpare n L (variable_product_at n B i k) j → (h : ℕ) × IsSmaller n B k j h
   smaller_exists i k j il kl (jl, q, e, free) =
       let b = get_or B k (unit n) in
       let apart : i ≡ j → ⊥ = λ d. free (subst (IsStandard L) (times_cancel (power n i 1) b q (sym e ∙ ap (λ z. times (power n z 1) q) (sym d))) (standard.standard b (k, kl, refl))) in
@@ -107,16 +106,16 @@ module _ {n : ℕ} (compare : Exponents n → Exponents n → Ordering) (o : IsM
       (h, (hl, ap (λ z. times z (power n j 1)) at ∙ times_comm s (power n j 1) ∙ sym d))
 
   pub smaller_product :
-      (i k j h : ℕ) → IsSmaller n B k j h → times (power n j 1) (product_at n B i h) ≡ product_at n B i k
+      (i k j h : ℕ) → IsSmaller n B k j h → times (power n j 1) (variable_product_at n B i h) ≡ variable_product_at n B i k
   smaller_product i k j h (hl, e) =
       let s = get_or B h (unit n) in
       sym (times_assoc (power n j 1) (power n i 1) s) ∙ ap (λ z. times z s) (times_comm (power n j 1) (power n i 1))
       ∙ times_assoc (power n i 1) (power n j 1) s ∙ ap (times (power n i 1)) (times_comm (power n j 1) s ∙ e)
 
   pub smaller_free :
-      (i k j h : ℕ) → IsSpare n L (product_at n B i k) j → IsSmaller n B k j h → IsStandard L (product_at n B i h) → ⊥
+      (i k j h : ℕ) → IsSpare n L (variable_product_at n B i k) j → IsSmaller n B k j h → IsStandard L (variable_product_at n B i h) → ⊥
   smaller_free i k j h (jl, q, e, free) small s =
-      free (subst (IsStandard L) (times_cancel (power n j 1) (product_at n B i h) q (smaller_product i k j h small ∙ sym e)) s)
+      free (subst (IsStandard L) (times_cancel (power n j 1) (variable_product_at n B i h) q (smaller_product i k j h small ∙ sym e)) s)
 
   pub smaller_before : (k j h : ℕ) → j < n → k < length B → IsSmaller n B k j h → h < k
   smaller_before k j h jl kl (hl, e) = go (cases_lt h k)
@@ -143,19 +142,19 @@ module _ {n : ℕ} (compare : Exponents n → Exponents n → Ordering) (o : IsM
   -- so their products by the variable j are known
   pub border_covered :
       (q m : Exponents n) (row : List ℕ) (j filled : ℕ) → times (power n j 1) q ≡ m → (IsStandard L q → ⊥) → IsRowNormalForm compare p F B q row
-      → (filled < length B → compare (product_at n B j filled) m ≡ Less → ⊥)
+      → (filled < length B → compare (variable_product_at n B j filled) m ≡ Less → ⊥)
       → (t : ℕ) → 0 < slice_index row t → t < filled
   border_covered q m row j filled e free form least t some = go (cases_lt t filled)
     where
       lt : t < length B
       lt = within (length B) p row t form.residues some
 
-      low : compare (product_at n B j t) m ≡ Less
-      low = subst (λ z. compare (product_at n B j t) z ≡ Less) e (less_times compare o (power n j 1) (get_or B t (unit n)) q (under q row free form t lt some))
+      low : compare (variable_product_at n B j t) m ≡ Less
+      low = subst (λ z. compare (variable_product_at n B j t) z ≡ Less) e (less_times compare o (power n j 1) (get_or B t (unit n)) q (under q row free form t lt some))
 
-      first : (filled < t) ⊎ (t ≤ filled) → filled ≤ t → compare (product_at n B j filled) m ≡ Less
-      first (inl l) g = less_trans compare o (product_at n B j filled) (product_at n B j t) m (less_times compare o (power n j 1) (get_or B filled (unit n)) (get_or B t (unit n)) (rise filled t l lt)) low
-      first (inr l) g = let same : t ≡ filled = omega (arith, l, g) in subst (λ z. compare (product_at n B j z) m ≡ Less) same low
+      first : (filled < t) ⊎ (t ≤ filled) → filled ≤ t → compare (variable_product_at n B j filled) m ≡ Less
+      first (inl l) g = less_trans compare o (variable_product_at n B j filled) (variable_product_at n B j t) m (less_times compare o (power n j 1) (get_or B filled (unit n)) (get_or B t (unit n)) (rise filled t l lt)) low
+      first (inr l) g = let same : t ≡ filled = omega (arith, l, g) in subst (λ z. compare (variable_product_at n B j z) m ≡ Less) same low
 
       go : (t < filled) ⊎ (filled ≤ t) → t < filled
       go (inl l) = l
@@ -164,7 +163,7 @@ module _ {n : ℕ} (compare : Exponents n → Exponents n → Ordering) (o : IsM
   -- the form of m, where it is the variable j times q
   pub border_form :
       (q m : Exponents n) (row out : List ℕ) (j : ℕ) (rows : List (List ℕ)) → times (power n j 1) q ≡ m → (IsStandard L q → ⊥) → IsRowNormalForm compare p F B q row
-      → ((t : ℕ) → t < length rows → IsRowNormalForm compare p F B (product_at n B j t) (get_or rows t []))
+      → ((t : ℕ) → t < length rows → IsRowNormalForm compare p F B (variable_product_at n B j t) (get_or rows t []))
       → ((t : ℕ) → 0 < slice_index row t → t < length rows)
       → AreResidues p (length B) out
       → ((t : ℕ) → ((s : ℕ) → 0 < slice_index row s → slice_index (get_or rows s []) t ≡ 0) → slice_index out t ≡ 0)
@@ -183,8 +182,8 @@ module _ {n : ℕ} (compare : Exponents n → Exponents n → Ordering) (o : IsM
       none t lt up s here (inl z) = z
       none t lt up s here (inr more) =
           let sl : s < length B = within (length B) p row s form.residues here in
-          let low : compare (product_at n B j s) m ≡ Less = subst (λ z. compare (product_at n B j s) z ≡ Less) e (less_times compare o (power n j 1) (get_or B s (unit n)) q (under q row free form s sl here)) in
-          absurd ((forms s (covered s here)).below t lt more (less_trans compare o (product_at n B j s) m (get_or B t (unit n)) low up))
+          let low : compare (variable_product_at n B j s) m ≡ Less = subst (λ z. compare (variable_product_at n B j s) z ≡ Less) e (less_times compare o (power n j 1) (get_or B s (unit n)) q (under q row free form s sl here)) in
+          absurd ((forms s (covered s here)).below t lt more (less_trans compare o (variable_product_at n B j s) m (get_or B t (unit n)) low up))
 
 -- what the product by a variable says
 abbrev pub IsZeroWhere : (rows : List (List ℕ)) (row out : List ℕ) → Type 0
@@ -198,7 +197,7 @@ IsProductWhere p rows row out =
 
 -- a candidate that is not standard and no lead
 module _ (n : ℕ) (ring : Ring) (basis : List (List (CodeKey × ℕ))) (heads standard : List Monomial) (h : IsBasisGiven n ring basis heads standard) (table : List (List (List ℕ))) (forms : AreFormsOver n ring basis standard table) (c : Candidate) (candidate : IsCandidate n ring.weights standard (λ v. length (get_or table v [])) c) (least : IsLeast n (comparison ring.order ring.weights n) (monomials n standard) (λ v. length (get_or table v [])) n (exponents_of n c.monomial.exponents)) (j : ℕ) (spare : IsSpare n (monomials n heads) (exponents_of n c.monomial.exponents) j) where
-  spare_product : IsSpare n (monomials n heads) (product_at n (monomials n standard) c.variable c.parent) j
+  spare_product : IsSpare n (monomials n heads) (variable_product_at n (monomials n standard) c.variable c.parent) j
   spare_product = subst (λ z. IsSpare n (monomials n heads) z j) candidate.product spare
 
   parent_within : c.parent < length (monomials n standard)
@@ -217,15 +216,15 @@ module _ (n : ℕ) (ring : Ring) (basis : List (List (CodeKey × ℕ))) (heads s
         let turn = candidate.turns in
         omega (arith, lt, turn)
 
-    pub candidate_row : IsFormOver n ring basis standard (product_at n (monomials n standard) c.variable k) (get_or (get_or table c.variable []) k [])
+    pub candidate_row : IsFormOver n ring basis standard (variable_product_at n (monomials n standard) c.variable k) (get_or (get_or table c.variable []) k [])
     candidate_row = forms c.variable k candidate.variable candidate_known
 
-    twice : times (power n j 1) (product_at n (monomials n standard) c.variable k) ≡ exponents_of n c.monomial.exponents
+    twice : times (power n j 1) (variable_product_at n (monomials n standard) c.variable k) ≡ exponents_of n c.monomial.exponents
     twice =
         smaller_product (comparison ring.order ring.weights n) (comparison_order ring.order ring.weights n) ring.modulus.value (given_positive n ring basis heads standard h) (sums_of n basis) (monomials n heads) (monomials n standard) h.are_standard h.ascending
         c.variable c.parent j k small ∙ sym candidate.product
 
-    free : IsStandard (monomials n heads) (product_at n (monomials n standard) c.variable k) → ⊥
+    free : IsStandard (monomials n heads) (variable_product_at n (monomials n standard) c.variable k) → ⊥
     free =
         smaller_free (comparison ring.order ring.weights n) (comparison_order ring.order ring.weights n) ring.modulus.value (given_positive n ring basis heads standard h) (sums_of n basis) (monomials n heads) (monomials n standard) h.are_standard h.ascending
         c.variable c.parent j k spare_product small
@@ -233,7 +232,7 @@ module _ (n : ℕ) (ring : Ring) (basis : List (List (CodeKey × ℕ))) (heads s
     pub candidate_covered : (row : List ℕ) → row ≡ get_or (get_or table c.variable []) k [] → (t : ℕ) → 0 < slice_index row t → t < length (get_or table j [])
     candidate_covered row is t some =
         border_covered (comparison ring.order ring.weights n) (comparison_order ring.order ring.weights n) ring.modulus.value (given_positive n ring basis heads standard h) (sums_of n basis) (monomials n heads) (monomials n standard) h.are_standard h.ascending
-        (product_at n (monomials n standard) c.variable k) (exponents_of n c.monomial.exponents) (get_or (get_or table c.variable []) k []) j (length (get_or table j [])) twice free candidate_row (least j spare.0)
+        (variable_product_at n (monomials n standard) c.variable k) (exponents_of n c.monomial.exponents) (get_or (get_or table c.variable []) k []) j (length (get_or table j [])) twice free candidate_row (least j spare.0)
         t (subst (λ z. 0 < slice_index z t) is some)
 
     pub candidate_rows : (row : List ℕ) → row ≡ get_or (get_or table c.variable []) k [] → Each (AreResidues ring.modulus.value (length row)) (get_or table j [])
@@ -254,8 +253,8 @@ module _ (n : ℕ) (ring : Ring) (basis : List (List (CodeKey × ℕ))) (heads s
     candidate_form row out is residues zeros product =
         let long : length (monomials n standard) ≡ length row = sym (ap length is ∙ candidate_row.residues.long) in
         border_form (comparison ring.order ring.weights n) (comparison_order ring.order ring.weights n) ring.modulus.value (given_positive n ring basis heads standard h) (sums_of n basis) (monomials n heads) (monomials n standard) h.are_standard h.ascending
-        (product_at n (monomials n standard) c.variable k) (exponents_of n c.monomial.exponents) row out j (get_or table j []) twice free
-        (subst (IsFormOver n ring basis standard (product_at n (monomials n standard) c.variable k)) (sym is) candidate_row)
+        (variable_product_at n (monomials n standard) c.variable k) (exponents_of n c.monomial.exponents) row out j (get_or table j []) twice free
+        (subst (IsFormOver n ring basis standard (variable_product_at n (monomials n standard) c.variable k)) (sym is) candidate_row)
         (λ t lt. forms j t spare.0 lt) (candidate_covered row is)
         (subst (λ d. AreResidues ring.modulus.value d out) (sym long) residues) zeros
         (product n (sums_of n basis) (monomials n standard) (power n j 1) long)

@@ -8,15 +8,14 @@ use Rattle.std.specs.Prelude.{slice_index}
 use Rattle.residues.proofs.Congruences.{IsCongruent_of}
 use Rattle.monomials.specs.Exponents.{Exponents, unit}
 use Rattle.formal_sums.specs.FormalSums.{Each, FormalSum}
-use Rattle.monomial_orders.specs.Kept.{Monomial}
+use Rattle.monomial_orders.specs.Kept.{Monomial, monomials}
 use Rattle.change_laws.proofs.Expansions.{expansion_one}
 use Rattle.change_laws.proofs.Modulo.{modulo_same, modulo_sym}
 use Rattle.orders.specs.MonomialOrders.{IsMonomialOrder}
 use Rattle.order_change.proofs.Items.{one_more}
 use Rattle.order_change.proofs.Orders.{less_not_itself}
 use Rattle.order_change.specs.Forms.{AreResidues}
-use Rattle.order_change.specs.Lists.{monomials}
-use Rattle.order_change.specs.Products.{HadAllItems, IsCandidate, IsLeast, product_at}
+use Rattle.order_change.specs.Products.{HadAllItems, IsCandidate, IsLeast, variable_product_at}
 use Rattle.order_change.specs.Tables.{IsFilling, IsRowNormalForm, IsNormalFormTable}
 use Rattle.order_change.specs.declared.products.Candidate.{Candidate}
 
@@ -55,7 +54,7 @@ filling_first compare p F B turns table tl zeros long none = record {
 -- one more row
 pub filling_more :
     {n : ℕ} (compare : Exponents n → Exponents n → Ordering) (p : ℕ) (F : List (FormalSum n)) (B : List (Exponents n)) (turns turns' : List ℕ) (table table' : List (List (List ℕ))) (v k : ℕ) (m : Exponents n) (form : List ℕ)
-    → IsFilling compare p F B turns table → v < n → k < length B → slice_index turns v ≡ k → m ≡ product_at n B v k → IsRowNormalForm compare p F B m form
+    → IsFilling compare p F B turns table → v < n → k < length B → slice_index turns v ≡ k → m ≡ variable_product_at n B v k → IsRowNormalForm compare p F B m form
     → length table' ≡ length table → get_or table' v [] ≡ get_or table v [] ++ form ∷ [] → ((w : ℕ) → (w ≡ v → ⊥) → get_or table' w [] ≡ get_or table w [])
     → length turns' ≡ length turns → slice_index turns' v ≡ slice_index turns v + 1 → ((w : ℕ) → (w ≡ v → ⊥) → slice_index turns' w ≡ slice_index turns w)
     → IsFilling compare p F B turns' table'
@@ -81,19 +80,19 @@ filling_more {n} compare p F B turns turns' table table' v k m form h vn kl turn
     most w wn (inl e) = subst (λ z. slice_index turns' z ≤ length B) (sym e) (omega (arith, tat, turn, kl))
     most w wn (inr ne) = subst (λ z. z ≤ length B) (sym (tothers w ne)) (h.most w wn)
 
-    row : (j : ℕ) → j < length (get_or table v []) + 1 → IsRowNormalForm compare p F B (product_at n B v j) (get_or (get_or table v [] ++ form ∷ []) j [])
-    row = one_more (λ j. IsRowNormalForm compare p F B (product_at n B v j) (get_or (get_or table v [] ++ form ∷ []) j [])) (length (get_or table v []))
-        (λ j jl. subst (IsRowNormalForm compare p F B (product_at n B v j)) (sym (get_or_append_left (get_or table v []) (form ∷ []) [] j jl)) (h.forms v j vn jl))
-        (subst (IsRowNormalForm compare p F B (product_at n B v (length (get_or table v [])))) (sym (get_or-append_seam (get_or table v []) form [] []))
-        (subst (λ z. IsRowNormalForm compare p F B (product_at n B v z) form) (sym known) (subst (λ z. IsRowNormalForm compare p F B z form) is normal)))
+    row : (j : ℕ) → j < length (get_or table v []) + 1 → IsRowNormalForm compare p F B (variable_product_at n B v j) (get_or (get_or table v [] ++ form ∷ []) j [])
+    row = one_more (λ j. IsRowNormalForm compare p F B (variable_product_at n B v j) (get_or (get_or table v [] ++ form ∷ []) j [])) (length (get_or table v []))
+        (λ j jl. subst (IsRowNormalForm compare p F B (variable_product_at n B v j)) (sym (get_or_append_left (get_or table v []) (form ∷ []) [] j jl)) (h.forms v j vn jl))
+        (subst (IsRowNormalForm compare p F B (variable_product_at n B v (length (get_or table v [])))) (sym (get_or-append_seam (get_or table v []) form [] []))
+        (subst (λ z. IsRowNormalForm compare p F B (variable_product_at n B v z) form) (sym known) (subst (λ z. IsRowNormalForm compare p F B z form) is normal)))
 
-    forms : (w j : ℕ) → w < n → j < length (get_or table' w []) → (w ≡ v) ⊎ (w ≡ v → ⊥) → IsRowNormalForm compare p F B (product_at n B w j) (get_or (get_or table' w []) j [])
+    forms : (w j : ℕ) → w < n → j < length (get_or table' w []) → (w ≡ v) ⊎ (w ≡ v → ⊥) → IsRowNormalForm compare p F B (variable_product_at n B w j) (get_or (get_or table' w []) j [])
     forms w j wn jl (inl e) =
         let jl' : j < length (get_or table v []) + 1 = let l : j < length (get_or table' v []) = subst (λ z. j < length (get_or table' z [])) e jl in omega (arith, l, grown) in
-        subst (λ z. IsRowNormalForm compare p F B (product_at n B z j) (get_or (get_or table' z []) j [])) (sym e)
-        (subst (λ z. IsRowNormalForm compare p F B (product_at n B v j) (get_or z j [])) (sym at) (row j jl'))
+        subst (λ z. IsRowNormalForm compare p F B (variable_product_at n B z j) (get_or (get_or table' z []) j [])) (sym e)
+        (subst (λ z. IsRowNormalForm compare p F B (variable_product_at n B v j) (get_or z j [])) (sym at) (row j jl'))
     forms w j wn jl (inr ne) =
-        subst (λ z. IsRowNormalForm compare p F B (product_at n B w j) (get_or z j [])) (sym (others w ne)) (h.forms w j wn (subst (λ z. j < length z) (others w ne) jl))
+        subst (λ z. IsRowNormalForm compare p F B (variable_product_at n B w j) (get_or z j [])) (sym (others w ne)) (h.forms w j wn (subst (λ z. j < length z) (others w ne) jl))
 
 -- all rows
 pub filling_all :
@@ -164,4 +163,4 @@ pub filling_least :
     {n : ℕ} (compare : Exponents n → Exponents n → Ordering) (p : ℕ) (F : List (FormalSum n)) (B : List (Exponents n)) (turns : List ℕ) (table : List (List (List ℕ))) (m : Exponents n)
     → IsFilling compare p F B turns table → IsLeast n compare B (slice_index turns) n m → IsLeast n compare B (λ v. length (get_or table v [])) n m
 filling_least {n} compare p F B turns table m h least v vn =
-    subst (λ z. z < length B → compare (product_at n B v z) m ≡ Less → ⊥) (h.counted v vn) (least v vn)
+    subst (λ z. z < length B → compare (variable_product_at n B v z) m ≡ Less → ⊥) (h.counted v vn) (least v vn)

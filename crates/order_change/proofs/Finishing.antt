@@ -11,7 +11,7 @@ use Rattle.bases.specs.Bases.{IsCovered, IsReducedBasis, IsReducedSet}
 use Rattle.bases.specs.Leads.{IsNormal, head_key, leads}
 use Rattle.bases.specs.Settings.{IsLawful}
 use Rattle.monomial_orders.specs.Comparisons.{comparison}
-use Rattle.monomial_orders.specs.Kept.{Monomial}
+use Rattle.monomial_orders.specs.Kept.{Monomial, monomials}
 use Rattle.monomial_orders.specs.Laws.{comparison_order}
 use Rattle.monomial_orders.specs.declared.order.Order.{Order}
 use Rattle.term_lists.proofs.NormalVectors.{residues_of}
@@ -33,8 +33,8 @@ use Rattle.order_change.proofs.Sorting.{ascending_distinct}
 use Rattle.order_change.proofs.Stepping.{table_products}
 use Rattle.order_change.proofs.Tails.{count, key_compared, lead_at, lead_position}
 use Rattle.order_change.specs.Changing.{AreVariableProducts, HasDivisor, IsChanged, IsFormModulo}
-use Rattle.order_change.specs.Lists.{AreMonomials, monomials}
-use Rattle.order_change.specs.Products.{HaveRoom, IsAscending, product_at}
+use Rattle.order_change.specs.Lists.{AreMonomials}
+use Rattle.order_change.specs.Products.{HaveRoom, IsAscending, variable_product_at}
 use Rattle.order_change.specs.Reordered.{with_order}
 use Rattle.order_change.specs.Tables.{IsFormOver, IsBasisGiven, IsTableOver}
 
@@ -98,7 +98,7 @@ module _ (n : ℕ) (ring : Ring) (F : List (FormalSum n)) (B : List (Exponents n
     independent = echelon_independent lawful.domain F B (monomials n h.monos) (λ l. slice_index (get_or h.rows l no_row).form) (λ l. slice_index (get_or h.rows l no_row).combination) (λ l. (get_or h.rows l no_row).pivot)
         (echelon n ring F B lawful h.monos h.forms h.rows h.standard) base;
     first = cover_or (unit n) h.turned.first;
-    closed = λ k i kl il. cover_or (product_at n (monomials n h.monos) i k) (h.turned.had i k il (let le = h.over i il in omega (arith, kl, le, length_monomials n h.monos)));
+    closed = λ k i kl il. cover_or (variable_product_at n (monomials n h.monos) i k) (h.turned.had i k il (let le = h.over i il in omega (arith, kl, le, length_monomials n h.monos)));
     uncovered = λ m has (k, lt, lead, (q, e)). h.members_are.uncovered m has k (omega (arith, lt, count_members))
         (q, ap (λ (x : Key n). times q x.1) (sym (new_lead k lt)) ∙ ap (λ (x : Key n). x.1) e);
     tails = λ i k lt nz. h.members_are.tails i k (omega (arith, lt, length_sums n members)) nz;

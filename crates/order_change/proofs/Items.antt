@@ -5,10 +5,9 @@ use Rattle.std.proofs.Common.{length-append}
 use Rattle.std.proofs.lemmas.List.{get_or-map, get_or_append_left, get_or_push}
 use Rattle.monomials.specs.Exponents.{Divides, Exponents, cons, exponents_of, times, unit}
 use Rattle.formal_sums.proofs.WeightedSums.{key_cases}
-use Rattle.monomial_orders.specs.Kept.{IsWeighed, Monomial}
+use Rattle.monomial_orders.specs.Kept.{IsWeighed, Monomial, monomials}
 use Rattle.monomial_orders.specs.Monomials.{IsMonomial, variable}
 use Rattle.change_laws.specs.Standard.{Has, IsStandard, power}
-use Rattle.order_change.specs.Lists.{monomials}
 
 -- the monomial of an item
 pub item_at :

@@ -4,12 +4,12 @@ use Rattle.std.proofs.Math.Seq.{get_or-append_seam}
 use Rattle.std.proofs.lemmas.Bool.{cases_lt}
 use Rattle.std.proofs.lemmas.List.{get_or_append_left}
 use Rattle.monomials.specs.Exponents.{Exponents, exponents_of, times, unit}
-use Rattle.monomial_orders.specs.Kept.{IsWeighed, Monomial}
+use Rattle.monomial_orders.specs.Kept.{IsWeighed, Monomial, monomials}
 use Rattle.change_laws.proofs.Listing.{all_listed, few_listed}
 use Rattle.change_laws.proofs.Pushing.{AreDistinct_none, AreDistinct_push, Has_cases, Has_new, Has_old, at_old, length_push}
 use Rattle.change_laws.specs.Standard.{AreDistinct, AreStandard, Has, HasMany, IsInfinite, IsStandard, power}
 use Rattle.order_change.proofs.Items.{has_or_not, item_at, length_monomials, monomials_push, one_more}
-use Rattle.order_change.specs.Lists.{AreListed, AreMonomials, AreMultiplied, HaveDegrees, IsMultiplied, IsMultiplying, IsNew, monomials}
+use Rattle.order_change.specs.Lists.{AreListed, AreMonomials, AreMultiplied, HaveDegrees, IsMultiplied, IsMultiplying, IsNew}
 use Rattle.order_change.specs.Stops.{AreFew}
 
 -- an item of a list with one more behind

@@ -11,7 +11,7 @@ use Rattle.formal_sums.specs.Combinations.{IsMember}
 use Rattle.formal_sums.specs.FormalSums.{Each, FormalSum, IsSame, Key, Term, scale}
 use Rattle.bases.specs.Settings.{IsLawful}
 use Rattle.monomial_orders.specs.Comparisons.{comparison}
-use Rattle.monomial_orders.specs.Kept.{IsWeighed, Monomial}
+use Rattle.monomial_orders.specs.Kept.{IsWeighed, Monomial, monomials}
 use Rattle.monomial_orders.specs.Laws.{comparison_order}
 use Rattle.term_lists.specs.Rings.{ring_comparison, setting}
 use Rattle.term_lists.specs.Vectors.{key_of, sum_of}
@@ -32,8 +32,8 @@ use Rattle.order_change.proofs.Tails.{sum_push}
 use Rattle.order_change.proofs.Turning.{divisor_more, divisor_new, turns_passed}
 use Rattle.order_change.specs.Changing.{AreNewMembers, AreNewStandard, AreVariableProducts, AreTurns, HasDivisor, IsMonomialAdded, IsChanging, IsFormModulo, IsKnownSoFar, IsNextMonomial, IsRest}
 use Rattle.order_change.specs.Forms.{AreResidues, IsRowForm, monomial_vector}
-use Rattle.order_change.specs.Lists.{HaveDegrees, IsNew, monomials}
-use Rattle.order_change.specs.Products.{HaveRoom, IsCandidate, IsLeast, product_at}
+use Rattle.order_change.specs.Lists.{HaveDegrees, IsNew}
+use Rattle.order_change.specs.Products.{HaveRoom, IsCandidate, IsLeast, variable_product_at}
 use Rattle.order_change.specs.Rows.{AreSame, IsCleared}
 use Rattle.order_change.specs.Tables.{IsNormalFormTable}
 use Rattle.order_change.specs.declared.rows.Row.{Row}
@@ -282,8 +282,8 @@ module _ (n : ℕ) (ring : Ring) (F : List (FormalSum n)) (B : List (Exponents n
   here_lt : slice_index change.turns c.variable < length (monomials n change.monomials.items)
   here_lt = let lt = candidate.parent in let t = candidate.turns in omega (arith, lt, t, length_monomials n change.monomials.items)
 
-  here : exponents_of n c.monomial.exponents ≡ product_at n (monomials n change.monomials.items) c.variable (slice_index change.turns c.variable)
-  here = candidate.product ∙ ap (product_at n (monomials n change.monomials.items) c.variable) (sym candidate.turns)
+  here : exponents_of n c.monomial.exponents ≡ variable_product_at n (monomials n change.monomials.items) c.variable (slice_index change.turns c.variable)
+  here = candidate.product ∙ ap (variable_product_at n (monomials n change.monomials.items) c.variable) (sym candidate.turns)
 
   standard_low : (i : ℕ) → i < length (monomials n change.monomials.items) → comparison ring.order ring.weights n (exponents_of n c.monomial.exponents) (get_or (monomials n change.monomials.items) i (unit n)) ≡ Less → ⊥
   standard_low i il below = h.turns.above_standard c.variable i candidate.variable here_lt il (ap (λ z. comparison ring.order ring.weights n z (get_or (monomials n change.monomials.items) i (unit n))) (sym here) ∙ below)

@@ -18,7 +18,7 @@ use Rattle.bases.proofs.NormalForms.{at_head}
 use Rattle.bases.specs.Leads.{head_key, leads}
 use Rattle.bases.specs.Settings.{IsLawful, Setting}
 use Rattle.monomial_orders.specs.Comparisons.{comparison, key_comparison}
-use Rattle.monomial_orders.specs.Kept.{Monomial}
+use Rattle.monomial_orders.specs.Kept.{Monomial, monomials}
 use Rattle.monomial_orders.specs.declared.order.ModOrder.TheVariants.{Pot, Top}
 use Rattle.monomial_orders.specs.declared.order.ModOrder.{ModOrder}
 use Rattle.monomial_orders.specs.declared.order.Order.{Order}
@@ -34,7 +34,6 @@ use Rattle.order_change.proofs.BasisLeads.{length_leads, length_sums, sums_at}
 use Rattle.order_change.proofs.Items.{length_monomials}
 use Rattle.order_change.proofs.VariableProducts.{spot, spot_other, spot_same}
 use Rattle.order_change.specs.Forms.{AreResidues, monomial_vector}
-use Rattle.order_change.specs.Lists.{monomials}
 use Rattle.order_change.specs.Tables.{AreTailTerms, IsFormOver, IsBasisGiven, IsSupported, IsTailTerm}
 
 -- minus the sum of the first i terms

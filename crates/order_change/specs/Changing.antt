@@ -7,7 +7,7 @@ use Rattle.formal_sums.specs.Combinations.{IsMember}
 use Rattle.formal_sums.specs.FormalSums.{Each, FormalSum, Key, coefficient}
 use Rattle.bases.specs.Leads.{IsMonicLead, leads}
 use Rattle.monomial_orders.specs.Comparisons.{comparison}
-use Rattle.monomial_orders.specs.Kept.{IsWeighed, Monomial}
+use Rattle.monomial_orders.specs.Kept.{IsWeighed, Monomial, monomials}
 use Rattle.term_lists.specs.Rings.{ring_comparison, setting}
 use Rattle.term_lists.specs.Vectors.{HasPositions, IsVector, sums_of}
 use Rattle.term_lists.specs.declared.key.Key.{Key as CodeKey}
@@ -15,8 +15,8 @@ use Rattle.term_lists.specs.declared.ring.Ring.{Ring}
 use Rattle.change_laws.specs.Combinations.{IsSameModulo, expansion}
 use Rattle.change_laws.specs.Standard.{Has, IsStandard, lead_monomials}
 use Rattle.order_change.specs.Forms.{AreResidues, IsRowForm, monomial_vector}
-use Rattle.order_change.specs.Lists.{AreMonomials, HaveDegrees, monomials}
-use Rattle.order_change.specs.Products.{HadAllItems, IsAscending, product_at}
+use Rattle.order_change.specs.Lists.{AreMonomials, HaveDegrees}
+use Rattle.order_change.specs.Products.{HadAllItems, IsAscending, variable_product_at}
 use Rattle.order_change.specs.Rows.{AreRows, AreSame, IsCleared}
 use Rattle.order_change.specs.declared.change.Change.{Change}
 use Rattle.order_change.specs.declared.rows.Row.{Row}
@@ -73,15 +73,15 @@ pub record AreNewMembers
 pub record AreTurns (n : ℕ) (ring : Ring) (N H : List (Exponents n)) (turns : List ℕ) : Type 0 where
   pub long : length turns ≡ n
   pub most : (v : ℕ) → v < n → slice_index turns v ≤ length N
-  pub had : (v k : ℕ) → v < n → k < slice_index turns v → Has N (product_at n N v k) ⊎ HasDivisor H (product_at n N v k)
+  pub had : (v k : ℕ) → v < n → k < slice_index turns v → Has N (variable_product_at n N v k) ⊎ HasDivisor H (variable_product_at n N v k)
   pub above_standard :
       (v k : ℕ)
       → v < n → slice_index turns v < length N → k < length N
-      → comparison ring.order ring.weights n (product_at n N v (slice_index turns v)) (get_or N k (unit n)) ≡ Less → ⊥
+      → comparison ring.order ring.weights n (variable_product_at n N v (slice_index turns v)) (get_or N k (unit n)) ≡ Less → ⊥
   pub above_leads :
       (v k : ℕ)
       → v < n → slice_index turns v < length N → k < length H
-      → comparison ring.order ring.weights n (product_at n N v (slice_index turns v)) (get_or H k (unit n)) ≡ Less → ⊥
+      → comparison ring.order ring.weights n (variable_product_at n N v (slice_index turns v)) (get_or H k (unit n)) ≡ Less → ⊥
   pub first : Has N (unit n) ⊎ HasDivisor H (unit n)
 
 -- the standard monomials and the members
@@ -149,4 +149,4 @@ pub record AreVariableProducts (n p : ℕ) (F : List (FormalSum n)) (B : List (E
   pub long : length table ≡ n
   pub full : (v : ℕ) → v < n → length (get_or table v []) ≡ length B
   pub residues : (v k : ℕ) → v < n → k < length B → AreResidues p (length B) (get_or (get_or table v []) k [])
-  pub forms : (v k : ℕ) → v < n → k < length B → IsRowForm p F B (monomial_vector (product_at n B v k)) (get_or (get_or table v []) k [])
+  pub forms : (v k : ℕ) → v < n → k < length B → IsRowForm p F B (monomial_vector (variable_product_at n B v k)) (get_or (get_or table v []) k [])

@@ -1,14 +1,10 @@
 -- Lists of monomials, as the code has them
-use Rattle.std.specs.Prelude.{List, get_or, length, map, ⊤, ℕ, ◌*◌, ◌<◌, ◌≡◌, ◌≤◌}
-use Rattle.monomials.specs.Exponents.{Exponents, exponents_of, times, unit}
-use Rattle.monomial_orders.specs.Kept.{IsWeighed, Monomial}
+use Rattle.std.specs.Prelude.{List, get_or, length, ⊤, ℕ, ◌*◌, ◌<◌, ◌≡◌, ◌≤◌}
+use Rattle.monomials.specs.Exponents.{Exponents, times, unit}
+use Rattle.monomial_orders.specs.Kept.{IsWeighed, Monomial, monomials}
 use Rattle.change_laws.specs.Standard.{AreDistinct, Has, HasMany, IsStandard, power}
 use Rattle.order_change.specs.declared.stop.ChangeStop.{ChangeStop}
 use Rattle.order_change.specs.declared.stop.ChangeStop.TheVariants.{Memory, Infinite, Many}
-
--- the monomials in n variables that the code's are
-abbrev pub monomials : (n : ℕ) → List Monomial → List (Exponents n)
-monomials n ms = map (λ m. exponents_of n m.exponents) ms
 
 -- each is a monomial in n variables of these weights
 abbrev pub AreMonomials : ℕ → List ℕ → List Monomial → Type 0

@@ -3,14 +3,13 @@ use Rattle.std.specs.Prelude.{List, get_or, length, ℕ, ◌+◌, ◌<◌, ◌�
 use Rattle.std.specs.declared.cmp.Ordering.{Ordering}
 use Rattle.std.specs.declared.cmp.Ordering.TheVariants.{Less}
 use Rattle.monomials.specs.Exponents.{Exponents, exponents_of, times, unit}
-use Rattle.monomial_orders.specs.Kept.{IsWeighed, Monomial}
+use Rattle.monomial_orders.specs.Kept.{IsWeighed, Monomial, monomials}
 use Rattle.change_laws.specs.Standard.{power}
-use Rattle.order_change.specs.Lists.{monomials}
 use Rattle.order_change.specs.declared.products.Candidate.{Candidate}
 
 -- the product of the variable v and the item k
-abbrev pub product_at : (n : ℕ) → List (Exponents n) → (v k : ℕ) → Exponents n
-product_at n ms v k = times (power n v 1) (get_or ms k (unit n))
+abbrev pub variable_product_at : (n : ℕ) → List (Exponents n) → (v k : ℕ) → Exponents n
+variable_product_at n ms v k = times (power n v 1) (get_or ms k (unit n))
 
 -- each item is below the later ones
 abbrev pub IsAscending : {n : ℕ} → (Exponents n → Exponents n → Ordering) → List (Exponents n) → Type 0
@@ -26,12 +25,12 @@ pub record IsCandidate (n : ℕ) (ws : List ℕ) (list : List Monomial) (turn : 
   pub parent : c.parent < length list
   pub turns : turn c.variable ≡ c.parent
   pub weighed : IsWeighed n ws c.monomial
-  pub product : exponents_of n c.monomial.exponents ≡ product_at n (monomials n list) c.variable c.parent
+  pub product : exponents_of n c.monomial.exponents ≡ variable_product_at n (monomials n list) c.variable c.parent
   pub degree : (m : Monomial) → get_or list c.parent m ≡ m → c.monomial.degree ≤ m.degree + 255
 
 -- of the first i variables, none has its turn at a product below m
 abbrev pub IsLeast : (n : ℕ) → (Exponents n → Exponents n → Ordering) → List (Exponents n) → (turn : ℕ → ℕ) → (i : ℕ) → Exponents n → Type 0
-IsLeast n compare ms turn i m = (v : ℕ) → v < i → turn v < length ms → compare (product_at n ms v (turn v)) m ≡ Less → ⊥
+IsLeast n compare ms turn i m = (v : ℕ) → v < i → turn v < length ms → compare (variable_product_at n ms v (turn v)) m ≡ Less → ⊥
 
 -- the first i variables have had all items
 abbrev pub HadAllItems : (turn : ℕ → ℕ) → (i count : ℕ) → Type 0

@@ -7,15 +7,15 @@ use Rattle.formal_sums.specs.FormalSums.{Each, FormalSum}
 use Rattle.bases.specs.Bases.{IsReducedSet}
 use Rattle.bases.specs.Settings.{IsLawful}
 use Rattle.monomial_orders.specs.Comparisons.{comparison}
-use Rattle.monomial_orders.specs.Kept.{IsWeighed, Monomial}
+use Rattle.monomial_orders.specs.Kept.{IsWeighed, Monomial, monomials}
 use Rattle.term_lists.specs.Rings.{ring_comparison, setting}
 use Rattle.term_lists.specs.Vectors.{HasPositions, IsVector, sums_of}
 use Rattle.term_lists.specs.declared.key.Key.{Key as CodeKey}
 use Rattle.term_lists.specs.declared.ring.Ring.{Ring}
 use Rattle.change_laws.specs.Standard.{AreStandard, Has, IsStandard, lead_monomials, power}
 use Rattle.order_change.specs.Forms.{AreResidues, IsRowForm, monomial_vector}
-use Rattle.order_change.specs.Lists.{AreMonomials, monomials}
-use Rattle.order_change.specs.Products.{HaveRoom, IsAscending, product_at}
+use Rattle.order_change.specs.Lists.{AreMonomials}
+use Rattle.order_change.specs.Products.{HaveRoom, IsAscending, variable_product_at}
 
 -- modulo the ideal of F, m is the combination of the monomials B by the row, and none of those in it is above m
 pub record IsRowNormalForm {n : ℕ}
@@ -28,7 +28,7 @@ pub record IsRowNormalForm {n : ℕ}
 -- the rows of each variable are the normal forms of its products with the first monomials of B
 abbrev pub AreForms : {n : ℕ} → (Exponents n → Exponents n → Ordering) → ℕ → List (FormalSum n) → List (Exponents n) → List (List (List ℕ)) → Type 0
 AreForms {n} compare p F B table =
-    (v k : ℕ) → v < n → k < length (get_or table v []) → IsRowNormalForm compare p F B (product_at n B v k) (get_or (get_or table v []) k [])
+    (v k : ℕ) → v < n → k < length (get_or table v []) → IsRowNormalForm compare p F B (variable_product_at n B v k) (get_or (get_or table v []) k [])
 
 -- with all monomials of B
 pub record IsNormalFormTable {n : ℕ}

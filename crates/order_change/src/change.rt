@@ -2,15 +2,15 @@
 ghost use Rattle.std.specs.Prelude.{◌≡◌, ◌<◌, ◌≤◌, ◌+◌, ◌++◌, ◌∷◌, ◌*◌, ℕ, [], List, false, true, IfOk, OnOk, IsTrue, get_or, length, slice_index, sum};
 ghost use Rattle.monomials.specs.Exponents.{Exponents, exponents_of, unit};
 ghost use Rattle.formal_sums.specs.FormalSums.{Each, FormalSum, IsSame};
-ghost use Rattle.monomial_orders.specs.Kept.{IsWeighed};
+ghost use Rattle.monomial_orders.specs.Kept.{IsWeighed, monomials};
 ghost use Rattle.term_lists.specs.Rings.{ring_comparison};
 ghost use Rattle.term_lists.specs.Vectors.{IsVector, sum_of, sums_of};
 ghost use Rattle.change_laws.specs.Combinations.{IsSameModulo, expansion};
 ghost use Rattle.change_laws.specs.Standard.{Has};
 ghost use Rattle.order_change.specs.Changing.{AreVariableProducts, IsMonomialAdded, IsChanged, IsChanging, IsFormModulo, IsKnownSoFar, IsNextMonomial, IsRest};
 ghost use Rattle.order_change.specs.Forms.{AreResidues, IsRowForm, monomial_vector};
-ghost use Rattle.order_change.specs.Lists.{AreMonomials, monomials};
-ghost use Rattle.order_change.specs.Products.{HadAllItems, product_at};
+ghost use Rattle.order_change.specs.Lists.{AreMonomials};
+ghost use Rattle.order_change.specs.Products.{HadAllItems, variable_product_at};
 ghost use Rattle.order_change.specs.Rows.{AreRows, AreSame, IsCleared};
 ghost use Rattle.order_change.specs.Tables.{IsBasisGiven, IsTableOver};
 ghost use Rattle.order_change.specs.declared.rows.Row.{Row as RowValue};
@@ -262,7 +262,7 @@ impl Change {
         requires variable { candidate.variable < length ring.now.weights }
         requires parent { candidate.parent < length self.old.monomials.items }
         requires product { let n = length ring.now.weights in exponents_of n candidate.monomial.exponents
-            ≡ product_at n (monomials n self.old.monomials.items) candidate.variable candidate.parent }
+            ≡ variable_product_at n (monomials n self.old.monomials.items) candidate.variable candidate.parent }
         ensures known { let n = length ring.now.weights in OnOk result (IsKnownSoFar n ring.now (sums_of n basis.now) (monomials n standard.now) self.new) }
         ensures added { OnOk result (IsMonomialAdded self.old self.new candidate.monomial) }
     {

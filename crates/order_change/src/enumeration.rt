@@ -1,10 +1,10 @@
 // The standard monomials, one from another.
 ghost use Rattle.std.specs.Prelude.{◌≡◌, ◌<◌, ◌≤◌, ◌+◌, ◌↔◌, IfErr, IfOk, IsTrue, OnOk, length};
 ghost use Rattle.monomials.specs.Exponents.{exponents_of};
-ghost use Rattle.monomial_orders.specs.Kept.{IsWeighed};
+ghost use Rattle.monomial_orders.specs.Kept.{IsWeighed, monomials};
 ghost use Rattle.change_laws.specs.Standard.{AreStandard};
 ghost use Rattle.order_change.specs.Stops.{AreFew, OrderChangeStops};
-ghost use Rattle.order_change.specs.Lists.{AreListed, AreMonomials, AreMultiplied, HaveDegrees, IsNew, StopsWhileListing, monomials};
+ghost use Rattle.order_change.specs.Lists.{AreListed, AreMonomials, AreMultiplied, HaveDegrees, IsNew, StopsWhileListing};
 
 use crate::ChangeStop;
 use crate::leads::{is_infinite, is_standard, multiple, position};

@@ -1,9 +1,9 @@
 // Monomials against the leads of a basis.
 ghost use Rattle.std.specs.Prelude.{◌≡◌, ◌<◌, ◌≤◌, ◌+◌, ◌↔◌, ℕ, IfNone, IfOk, IfSome, IsTrue, get_or, length};
 ghost use Rattle.monomials.specs.Exponents.{exponents_of, times, unit};
-ghost use Rattle.monomial_orders.specs.Kept.{IsWeighed};
+ghost use Rattle.monomial_orders.specs.Kept.{IsWeighed, monomials};
 ghost use Rattle.change_laws.specs.Standard.{Has, IsInfinite, IsStandard, power};
-ghost use Rattle.order_change.specs.Lists.{AreMonomials, monomials};
+ghost use Rattle.order_change.specs.Lists.{AreMonomials};
 
 use monomial_orders::{Mono, MonoStop, NoMemory, Weights};
 use std::alloc::Global;

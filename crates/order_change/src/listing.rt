@@ -6,7 +6,8 @@ ghost use Rattle.term_lists.specs.Vectors.{AreVectorsOver, IsMonomialOver, sums_
 ghost use Rattle.groebner_iface.specs.Runs.{IsReducedBasisOf};
 ghost use Rattle.change_laws.specs.Standard.{AreStandard, lead_monomials};
 ghost use Rattle.order_change.specs.Stops.{AreFew, OrderChangeStops};
-ghost use Rattle.order_change.specs.Lists.{AreMonomials, monomials};
+ghost use Rattle.order_change.specs.Lists.{AreMonomials};
+ghost use Rattle.monomial_orders.specs.Kept.{monomials};
 
 use crate::ChangeStop;
 use crate::enumeration::standard_monomials;

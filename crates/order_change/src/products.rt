@@ -4,9 +4,9 @@ ghost use Rattle.std.specs.Prelude.{◌≡◌, ◌<◌, ◌≤◌, ◌+◌, ◌�
 ghost use Rattle.std.specs.declared.cmp.Ordering.TheVariants.{Less};
 ghost use Rattle.monomials.specs.Exponents.{exponents_of, unit};
 ghost use Rattle.monomial_orders.specs.Comparisons.{comparison};
-ghost use Rattle.monomial_orders.specs.Kept.{IsWeighed};
-ghost use Rattle.order_change.specs.Lists.{AreMonomials, monomials};
-ghost use Rattle.order_change.specs.Products.{HadAllItems, HaveRoom, IsCandidate, IsLeast, product_at};
+ghost use Rattle.monomial_orders.specs.Kept.{IsWeighed, monomials};
+ghost use Rattle.order_change.specs.Lists.{AreMonomials};
+ghost use Rattle.order_change.specs.Products.{HadAllItems, HaveRoom, IsCandidate, IsLeast, variable_product_at};
 
 use crate::ascending::is_below;
 use crate::leads::multiple;

@@ -3,12 +3,12 @@ ghost use Rattle.std.specs.Prelude.{◌≡◌, ◌<◌, ◌+◌, ◌*◌, ◌++�
 ghost use Rattle.monomials.specs.Exponents.{Divides, exponents_of, unit};
 ghost use Rattle.formal_sums.specs.FormalSums.{IsSame};
 ghost use Rattle.monomial_orders.specs.Comparisons.{comparison};
-ghost use Rattle.monomial_orders.specs.Kept.{IsWeighed};
+ghost use Rattle.monomial_orders.specs.Kept.{IsWeighed, monomials};
 ghost use Rattle.term_lists.specs.Vectors.{sum_of};
 ghost use Rattle.change_laws.specs.Combinations.{expansion};
 ghost use Rattle.change_laws.specs.Standard.{Has, IsStandard};
 ghost use Rattle.order_change.specs.Forms.{AreResidues};
-ghost use Rattle.order_change.specs.Lists.{AreMonomials, monomials};
+ghost use Rattle.order_change.specs.Lists.{AreMonomials};
 ghost use Rattle.order_change.specs.Products.{HadAllItems, IsCandidate, IsLeast};
 ghost use Rattle.order_change.specs.Tables.{AreFormsOver, AreTailTerms, IsFillingOver, IsFormOver, IsBasisGiven, IsSmaller, IsSpare, IsSupported, IsTableOver};
 

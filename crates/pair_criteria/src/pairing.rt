@@ -1,7 +1,7 @@
 // The pair of two leads.
 ghost use Rattle.std.specs.Prelude.{◌≡◌, ◌<◌, ◌≤◌, IfOk, IfSome, IsOk, length};
 ghost use Rattle.monomial_orders.specs.Kept.{IsWeighed};
-ghost use Rattle.pair_criteria.specs.Pairs.{IsPairOf, lead_at, variables_of};
+ghost use Rattle.pair_criteria.specs.Pairs.{IsPairOf, key_variables, lead_with_index};
 
 use crate::Pair;
 use module_vectors::{Key, NoMemory};
@@ -19,12 +19,12 @@ pub fn pair_of(
 ) -> Result<Option<Pair>, NoMemory>
     requires order { i < j }
     requires known { j < length leads.now }
-    requires variables { variables_of (lead_at leads.now i) ≡ variables_of (lead_at leads.now j) }
-    requires weights { length weights.now ≡ variables_of (lead_at leads.now i) }
+    requires variables { key_variables (lead_with_index leads.now i) ≡ key_variables (lead_with_index leads.now j) }
+    requires weights { length weights.now ≡ key_variables (lead_with_index leads.now i) }
     ensures pair { IfOk result (IsPairOf leads.now i j) }
     ensures weighed { IfOk result (λ answer. IfSome answer (λ pair.
-        IsWeighed (variables_of (lead_at leads.now i)) weights.now pair.lcm.monomial)) }
-    ensures no_memory { variables_of (lead_at leads.now i) ≤ 16 → IsOk result }
+        IsWeighed (key_variables (lead_with_index leads.now i)) weights.now pair.lcm.monomial)) }
+    ensures no_memory { key_variables (lead_with_index leads.now i) ≤ 16 → IsOk result }
 {
     let left = &leads[i as usize];
     let right = &leads[j as usize];

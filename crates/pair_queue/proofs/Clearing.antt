@@ -10,12 +10,12 @@ use Rattle.pair_queue.proofs.Tabling.{one_at_most}
 use Rattle.pair_queue.specs.declared.out.Out.{Out}
 use Rattle.pair_queue.specs.Giving.{HasCleared}
 use Rattle.pair_queue.specs.Outs.{outs_of}
-use Rattle.pair_queue.specs.Tables.{IsFlagTable, cleared, flagged}
+use Rattle.pair_queue.specs.Tables.{IsFlagTable, flag_cleared, flagged}
 
 -- one more pair
 pub more_cleared :
     (job : List Pair) (x : Pair) (old mid new : Pair → Bool)
-    → HasCleared job old mid → new ≡ cleared mid x → HasCleared (job ++ (x ∷ [])) old new
+    → HasCleared job old mid → new ≡ flag_cleared mid x → HasCleared (job ++ (x ∷ [])) old new
 more_cleared job x old mid new h step y = (λ i. step i y) ∙ ap (λ b. cond (is_same_pair y x) false b) (h y) ∙ go (count y job) (is_same_pair y x)
     ∙ ap (λ k. cond (ltb 0 k) false (old y)) (sym (count-append y job (x ∷ [])))
   where

@@ -12,7 +12,7 @@ use Rattle.pair_queue.proofs.Putting.{chain_third, either, made_chain, no_flag, 
 use Rattle.pair_updates.specs.Leads.{LeadsShown, sums_shown}
 use Rattle.pair_updates.specs.LeadCriteria.{DividesLcm}
 use Rattle.pair_queue.specs.Skipping.{ChainSpares}
-use Rattle.pair_queue.specs.Tables.{TableShown, flag, flagged, size}
+use Rattle.pair_queue.specs.Tables.{TableShown, flag, flagged, member_count}
 
 -- ---- what the bits say
 and_left : (x y : Bool) → (x && y) ≡ true → x ≡ true
@@ -46,7 +46,7 @@ no_bit word r x y h n e = go (bit_at word r == 1) refl
 pub apart_of : (t : TableShown) (a c : ℕ) → flag t (pair_of a c) ≡ true → a ≡ c → ⊥
 apart_of t a c h e = let l = (flag_within t (pair_of a c) h).0 in omega (arith, l, e)
 
-pub member_of : (t : TableShown) (a c : ℕ) → flag t (pair_of a c) ≡ true → c < size t
+pub member_of : (t : TableShown) (a c : ℕ) → flag t (pair_of a c) ≡ true → c < member_count t
 member_of t a c h = let m = (flag_within t (pair_of a c) h).1 in omega (arith, m)
 
 -- ---- one more bit
@@ -65,10 +65,10 @@ place_within word r fits one = go (cases_lt r 64)
 pub next_member :
     (t : TableShown) (a first found done place left next : ℕ)
     → found < 2 ^ 64 → bit_at left place ≡ bit_at found (done + place) → bit_at left place ≡ 1
-    → ((r : ℕ) → r < 64 → bit_at found r ≡ 1 → flag t (pair_of a (first + r)) ≡ true) → next ≡ first + done → next + place < size t
+    → ((r : ℕ) → r < 64 → bit_at found r ≡ 1 → flag t (pair_of a (first + r)) ≡ true) → next ≡ first + done → next + place < member_count t
 next_member t a first found done place left next fits same one all is =
     let bit : bit_at found (done + place) ≡ 1 = sym same ∙ one in
-    let h : first + (done + place) < size t =
+    let h : first + (done + place) < member_count t =
     member_of t a (first + (done + place)) (all (done + place) (place_within found (done + place) fits bit) bit) in
     omega (arith, h, is)
 

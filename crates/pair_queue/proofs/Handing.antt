@@ -24,7 +24,7 @@ use Rattle.pair_updates.specs.Pairs.{IsRealPair, pairs_of, AreIndices}
 use Rattle.pair_queue.specs.Outs.{outs_of}
 use Rattle.pair_queue.specs.Queues.{QueueShown}
 use Rattle.pair_queue.specs.Skipping.{AreSkipped, IsKnown}
-use Rattle.pair_queue.specs.Tables.{HasSameFlags, IsFlagTable, TableShown, flag, size}
+use Rattle.pair_queue.specs.Tables.{HasSameFlags, IsFlagTable, TableShown, flag, member_count}
 
 pub others_within : (P : Pair → Type 0) (w : ℕ) (out : List (Pair × ℕ)) → Each P (pairs_out out) → Each P (pairs_out (with_others w out))
 others_within P w out h = each_counted P (pairs_out (with_others w out)) (λ x l. count_each P x (pairs_out out) h (omega (arith, l, count_workers x w out)))
@@ -65,7 +65,7 @@ pub given_coherent :
     → IsCoherent i → (i.update ≡ Plain → AreSkipped i.leads (outs_of i.out.items) (pairs_of i.queue.items) skipped (pairs_of left) (flag waits))
     → Each (IsRealPair i.leads) left → IsSorted (setting_of_leads i.leads.variables i.leads) (sums_shown i.leads) (pairs_of left)
     → (i.update ≡ Plain → Each (IsKnown i.leads (flag waits) (flag due)) (pairs_of left))
-    → (i.update ≡ Plain → size waits ≡ length i.leads.keys) → (i.update ≡ Plain → size due ≡ length i.leads.keys)
+    → (i.update ≡ Plain → member_count waits ≡ length i.leads.keys) → (i.update ≡ Plain → member_count due ≡ length i.leads.keys)
     → queue.items ≡ drop k left → outs_of out.items ≡ outs_of i.out.items ++ out_with w (pairs_of (take k left))
     → IsCoherent (record i { queue = queue; out = out; waits = waits; due = due })
 given_coherent i skipped left k w queue out waits due kept skips real sorted known waits_size due_size queue_is out_is =

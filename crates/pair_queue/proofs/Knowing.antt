@@ -7,10 +7,10 @@ use Rattle.basis_steps.proofs.Counting.{is_same_pair-refl}
 use Rattle.basis_steps.specs.Pairs.{Pair, count, is_same_pair}
 use Rattle.pair_updates.proofs.Leading.{leads_length}
 use Rattle.pair_updates.specs.Leads.{LeadsShown, sums_shown}
-use Rattle.pair_updates.specs.Pairs.{IsRealPair, pair_of, pairs_of, AreIndices}
+use Rattle.pair_updates.specs.Pairs.{IsRealPair, index_pair_of, pairs_of, AreIndices}
 use Rattle.pair_queue.specs.Skipping.{IsKnown, IsSpared, NoneIsSpared}
 
-pub indices_of : (m : LeadsShown) (xs : List CodePair) (k : ℕ) → k ≡ length m.keys → Each (IsRealPair m) xs → Each (λ x. AreIndices k (pair_of x)) xs
+pub indices_of : (m : LeadsShown) (xs : List CodePair) (k : ℕ) → k ≡ length m.keys → Each (IsRealPair m) xs → Each (λ x. AreIndices k (index_pair_of x)) xs
 indices_of m [] k e h = tt
 indices_of m (x ∷ xs) k e h = ((h.0.pair.ordered, omega (arith, e, h.0.pair.within, leads_length m.variables m.keys)), indices_of m xs k e h.1)
 
@@ -22,7 +22,7 @@ indices_queued m (x ∷ xs) h = ((h.0.pair.ordered, omega (arith, h.0.pair.withi
 pub none_due :
     (m : LeadsShown) (w d : Pair → Bool) (xs : List CodePair) (before count : ℕ)
     → NoneIsSpared m w (take before (pairs_of xs))
-    → ((k : ℕ) (x : CodePair) → before ≤ k → k < count → x ≡ get_or xs k x → d (pair_of x) ≡ true)
+    → ((k : ℕ) (x : CodePair) → before ≤ k → k < count → x ≡ get_or xs k x → d (index_pair_of x) ≡ true)
     → Each (IsKnown m w d) (pairs_of xs) → NoneIsSpared m w (take count (pairs_of xs))
 none_due m w d [] before zero none due known = tt
 none_due m w d [] before (suc count) none due known = tt

@@ -7,18 +7,18 @@ use Rattle.basis_steps.specs.Pairs.{Pair}
 use Rattle.basis_steps.specs.States.{pairs_out}
 use Rattle.basis_steps.specs.Steps.{out_with}
 use Rattle.pair_queue.specs.Outs.{outs_of}
-use Rattle.pair_updates.specs.Pairs.{pair_of, pairs_of}
+use Rattle.pair_updates.specs.Pairs.{index_pair_of, pairs_of}
 use Rattle.pair_queue.specs.declared.out.Out.{Out}
 
 pub take_next : (xs : List CodePair) (k : ℕ) (x : CodePair) → k < length xs → x ≡ get_or xs k x
-    → take (k + 1) (pairs_of xs) ≡ take k (pairs_of xs) ++ pair_of x ∷ []
+    → take (k + 1) (pairs_of xs) ≡ take k (pairs_of xs) ++ index_pair_of x ∷ []
 take_next [] k x l e = absurd (omega arith)
 take_next (y ∷ xs) zero x l e =
     let one : 0 + 1 ≡ 1 = omega arith in
-    ap (λ m. take m (pairs_of (y ∷ xs))) one ∙ ap (λ (z : CodePair). pair_of z ∷ []) (sym e)
+    ap (λ m. take m (pairs_of (y ∷ xs))) one ∙ ap (λ (z : CodePair). index_pair_of z ∷ []) (sym e)
 take_next (y ∷ xs) (suc k) x l e =
     let one : suc k + 1 ≡ suc (k + 1) = omega arith in
-    ap (λ m. take m (pairs_of (y ∷ xs))) one ∙ ap (λ z. pair_of y ∷ z) (take_next xs k x (omega arith) e)
+    ap (λ m. take m (pairs_of (y ∷ xs))) one ∙ ap (λ z. index_pair_of y ∷ z) (take_next xs k x (omega arith) e)
 
 pub outs_next :
     (start out : List Out) (o : Out) (ps : List Pair)

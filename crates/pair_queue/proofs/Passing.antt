@@ -9,10 +9,10 @@ use Rattle.basis_steps.specs.Criteria.{CriterionApplies, NoCriterionApplies, Ski
 use Rattle.basis_steps.specs.Pairs.{Pair}
 use Rattle.pair_queue.proofs.Tabling.{table_is, table_less}
 use Rattle.pair_updates.proofs.PairLists.{pairs_append}
-use Rattle.pair_updates.specs.Pairs.{pair_of, pairs_of}
+use Rattle.pair_updates.specs.Pairs.{index_pair_of, pairs_of}
 use Rattle.pair_updates.specs.Leads.{LeadsShown, setting_of_leads, sums_shown}
 use Rattle.pair_queue.specs.Skipping.{AreSkipped, IsSpared, NoneIsSpared}
-use Rattle.pair_queue.specs.Tables.{cleared, flagged}
+use Rattle.pair_queue.specs.Tables.{flag_cleared, flagged}
 
 skips_more :
     {n : ℕ} (S : Setting n) (G : List (FormalSum n)) (out : List (Pair × ℕ)) (queue skipped front back : List Pair) (x : Pair)
@@ -28,7 +28,7 @@ pub pass_over :
     (m : LeadsShown) (out : List (Pair × ℕ)) (queue skipped front back : List Pair) (x : Pair) (f : Pair → Bool)
     → NoneIsSpared m f front → IsSpared m f x
     → AreSkipped m out queue skipped (front ++ x ∷ back) f
-    → AreSkipped m out queue (skipped ++ x ∷ []) (front ++ back) (cleared f x)
+    → AreSkipped m out queue (skipped ++ x ∷ []) (front ++ back) (flag_cleared f x)
 pass_over m out queue skipped front back x f none spared h =
     let S = setting_of_leads m.variables m in
     let G = sums_shown m in
@@ -41,7 +41,7 @@ pass_over m out queue skipped front back x f none spared h =
 
 -- the pair is kept: what is left is the same
 pub left_kept : (kept rest : List CodePair) (x : CodePair) → pairs_of kept ++ pairs_of (x ∷ rest) ≡ pairs_of (kept ++ x ∷ []) ++ pairs_of rest
-left_kept kept rest x = sym (append_assoc (pairs_of kept) (pair_of x ∷ []) (pairs_of rest)) ∙ ap (λ z. z ++ pairs_of rest) (sym (pairs_append kept (x ∷ [])))
+left_kept kept rest x = sym (append_assoc (pairs_of kept) (index_pair_of x ∷ []) (pairs_of rest)) ∙ ap (λ z. z ++ pairs_of rest) (sym (pairs_append kept (x ∷ [])))
 
 -- pairs are put back: what is left is the same
 pub left_back :

@@ -10,7 +10,7 @@ use Rattle.basis_steps.proofs.Counting.{is_same_pair-refl, is_same_pair-true, pa
 use Rattle.basis_steps.specs.Criteria.{ChainApplies, CriterionApplies, lcm_of}
 use Rattle.basis_steps.specs.Pairs.{Pair, is_same_pair, pair_of}
 use Rattle.pair_queue.proofs.Sparing.{chain_by, spared_still}
-use Rattle.pair_queue.specs.Tables.{cleared, flagged}
+use Rattle.pair_queue.specs.Tables.{flag_cleared, flagged}
 
 -- ---- one flag changed
 module _ (f g : Pair → Bool) (p : Pair) (b : Bool) (h : (x : Pair) → g x ≡ cond (is_same_pair x p) b (f x)) where
@@ -90,7 +90,7 @@ either true = inl refl
 either false = inr refl
 
 -- ---- a pair that waits no more
-module _ {n : ℕ} (S : Setting n) (G : List (FormalSum n)) (before w : Pair → Bool) (i j : ℕ) (now : w ≡ cleared before (i, j)) where
+module _ {n : ℕ} (S : Setting n) (G : List (FormalSum n)) (before w : Pair → Bool) (i j : ℕ) (now : w ≡ flag_cleared before (i, j)) where
   -- what is known of y after both passes
   pub still_shut :
       (due mid late last : Pair → Bool) (y : Pair)

@@ -24,10 +24,10 @@ use Rattle.pair_updates.proofs.LeastDegree.{no_less}
 use Rattle.pair_updates.proofs.PairLists.{pairs_length}
 use Rattle.pair_queue.proofs.Sparing.{chain_by}
 use Rattle.pair_updates.proofs.Leading.{pairs_real}
-use Rattle.pair_updates.specs.Pairs.{IsRealPair, pair_of, pairs_of}
+use Rattle.pair_updates.specs.Pairs.{IsRealPair, index_pair_of, pairs_of}
 use Rattle.pair_updates.specs.Leads.{LeadsShown, setting_of_leads, sums_shown}
 use Rattle.pair_queue.specs.Skipping.{NoneIsSpared}
-use Rattle.pair_queue.specs.Tables.{cleared, flagged}
+use Rattle.pair_queue.specs.Tables.{flag_cleared, flagged}
 
 -- a divisor of the same degree is the same
 pub same_divisor : {n : ℕ} (ws : List ℕ) (v w : Exponents n) → Divides v w → weighted_degree ws w ≤ weighted_degree ws v → v ≡ w
@@ -87,7 +87,7 @@ module _ {n : ℕ} (S : Setting n) (G : List (FormalSum n)) (total : IsTotalOrde
 
   module _ (before : Pair → Bool) (x : Pair) (rest : List Pair) (pair : IsPair G x) where
     -- the leads of x divide the lcm of a pair to which a criterion applies now alone
-    lcm_divided : (y : Pair) → IsPair G y → (CriterionApplies S G (flagged before) y → ⊥) → CriterionApplies S G (flagged (cleared before x)) y
+    lcm_divided : (y : Pair) → IsPair G y → (CriterionApplies S G (flagged before) y → ⊥) → CriterionApplies S G (flagged (flag_cleared before x)) y
         → Divides (lcm_of G x).1 (lcm_of G y).1
     lcm_divided y real not (inl p) = absurd (not (inl p))
     lcm_divided y real not (inr (k, c)) =
@@ -116,7 +116,7 @@ module _ {n : ℕ} (S : Setting n) (G : List (FormalSum n)) (total : IsTotalOrde
 
     -- so it has the lcm of x, where it stands before x
     same_lcm : (y : Pair) → IsPair G y → compare_pairs S G y x ≡ Less → (CriterionApplies S G (flagged before) y → ⊥)
-        → CriterionApplies S G (flagged (cleared before x)) y → (lcm_of G x).1 ≡ (lcm_of G y).1
+        → CriterionApplies S G (flagged (flag_cleared before x)) y → (lcm_of G x).1 ≡ (lcm_of G y).1
     same_lcm y real l not now = same_divisor S.weights (lcm_of G x).1 (lcm_of G y).1 (lcm_divided y real not now) (no_less S G y x l)
 
     each_left : (P : Pair → Type 0) (ys : List Pair) (j : ℕ) (z : Pair) → Each P (ys ++ x ∷ rest) → j < length ys → z ≡ get_or ys j z → P z
@@ -137,7 +137,7 @@ module _ {n : ℕ} (S : Setting n) (G : List (FormalSum n)) (total : IsTotalOrde
     none_up_to :
         (ys : List Pair) (j : ℕ) (z : Pair)
         → Each (IsPair G) ys → IsSorted S G (ys ++ x ∷ rest) → j < length ys → z ≡ get_or ys j z → ((lcm_of G x).1 ≡ (lcm_of G z).1 → ⊥)
-        → Each (λ y. CriterionApplies S G (flagged before) y → ⊥) ys → Each (λ y. CriterionApplies S G (flagged (cleared before x)) y → ⊥) (take (suc j) ys)
+        → Each (λ y. CriterionApplies S G (flagged before) y → ⊥) ys → Each (λ y. CriterionApplies S G (flagged (flag_cleared before x)) y → ⊥) (take (suc j) ys)
     none_up_to [] j z real h l e other not = tt
     none_up_to (y ∷ ys) zero z real h l e other not = (
       (λ now. other (subst (λ (w : Pair). (lcm_of G x).1 ≡ (lcm_of G w).1) (sym e)
@@ -154,7 +154,7 @@ module _ {n : ℕ} (S : Setting n) (G : List (FormalSum n)) (total : IsTotalOrde
         (ys : List Pair) (k : ℕ)
         → Each (IsPair G) ys → IsSorted S G (ys ++ x ∷ rest) → k ≤ length ys
         → ((z : Pair) (j : ℕ) → k ≡ j + 1 → z ≡ get_or ys j z → (lcm_of G x).1 ≡ (lcm_of G z).1 → ⊥)
-        → Each (λ y. CriterionApplies S G (flagged before) y → ⊥) ys → Each (λ y. CriterionApplies S G (flagged (cleared before x)) y → ⊥) (take k ys)
+        → Each (λ y. CriterionApplies S G (flagged before) y → ⊥) ys → Each (λ y. CriterionApplies S G (flagged (flag_cleared before x)) y → ⊥) (take k ys)
     none_before ys zero real h l other not = tt
     none_before ys (suc j) real h l other not =
         let z : Pair = get_or ys j x in
@@ -167,9 +167,9 @@ module _ {n : ℕ} (S : Setting n) (G : List (FormalSum n)) (total : IsTotalOrde
         default (y ∷ ys) (suc j) l = default ys j (omega (arith, l))
 
 -- ---- the same of queued pairs
-pair_at : (xs : List CodePair) (j : ℕ) (w : CodePair) (z : Pair) → j < length xs → w ≡ get_or xs j w → z ≡ get_or (pairs_of xs) j z → z ≡ pair_of w
+pair_at : (xs : List CodePair) (j : ℕ) (w : CodePair) (z : Pair) → j < length xs → w ≡ get_or xs j w → z ≡ get_or (pairs_of xs) j z → z ≡ index_pair_of w
 pair_at [] j w z l e f = absurd (omega (arith, l))
-pair_at (x ∷ xs) zero w z l e f = f ∙ ap (λ (v : CodePair). pair_of v) (sym e)
+pair_at (x ∷ xs) zero w z l e f = f ∙ ap (λ (v : CodePair). index_pair_of v) (sym e)
 pair_at (x ∷ xs) (suc j) w z l e f = pair_at xs j w z (omega (arith, l)) e f
 
 one_there : (xs : List CodePair) (j : ℕ) (d : CodePair) → j < length xs → get_or xs j d ≡ get_or xs j (get_or xs j d)
@@ -184,7 +184,7 @@ pub none_kept :
     → IsSorted (setting_of_leads m.variables m) (sums_shown m) (pairs_of (take kept q) ++ pairs_of (drop next q))
     → count ≤ length (take kept q)
     → ((z : CodePair) → 0 < count → z ≡ get_or (take kept q) (count - 1) z → x.lcm.monomial ≡ z.lcm.monomial → ⊥)
-    → g ≡ cleared f pair
+    → g ≡ flag_cleared f pair
     → NoneIsSpared m f (pairs_of (take kept q)) → NoneIsSpared m g (take count (pairs_of (take kept q)))
 none_kept m q kept next count x pair f g real there is place sorted few other now none =
     let n = m.variables in
@@ -193,7 +193,7 @@ none_kept m q kept next count x pair f g real there is place sorted few other no
     let K : List CodePair = take kept q in
     let order = key_comparison_order m.module_order m.order m.weights n 0 in
     let first : drop next q ≡ x ∷ drop (next + 1) q = drop_more q next x there ∙ ap (λ (z : CodePair). z ∷ drop (next + 1) q) (sym is) in
-    let same : pair ≡ pair_of x = ap (λ (l : List Pair). get_or l 0 pair) (sym place ∙ ap (λ (l : List CodePair). pairs_of l) first) in
+    let same : pair ≡ index_pair_of x = ap (λ (l : List Pair). get_or l 0 pair) (sym place ∙ ap (λ (l : List CodePair). pairs_of l) first) in
     let x_real : IsRealPair m x = Each_at (IsRealPair m) q next x real there is in
     let reals : Each (IsRealPair m) K = Each_take (IsRealPair m) kept q real in
     let x_pair : IsPair G pair = subst (IsPair G) (sym same) x_real.pair in
@@ -204,7 +204,7 @@ none_kept m q kept next count x pair f g real there is place sorted few other no
     let w : CodePair = get_or K j x in
     let w_is : w ≡ get_or K j w = one_there K j x l in
     let w_real : IsRealPair m w = Each_at (IsRealPair m) K j w reals l w_is in
-    let z_is : z ≡ pair_of w = pair_at K j w z l w_is h in
+    let z_is : z ≡ index_pair_of w = pair_at K j w z l w_is h in
     let back : j ≡ count - 1 = omega (arith, e) in
     let key : exponents_of n x.lcm.monomial.exponents ≡ exponents_of n w.lcm.monomial.exponents = x_lcm ∙ d ∙ ap (λ (v : Pair). (lcm_of G v).1) z_is
     ∙ sym (ap (λ (k : Key n). k.1) w_real.lcm.lcm) in

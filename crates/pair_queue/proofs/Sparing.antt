@@ -7,7 +7,7 @@ use Rattle.basis_steps.proofs.Counting.{is_same_pair-true}
 use Rattle.basis_steps.specs.Criteria.{ChainApplies, CriterionApplies}
 use Rattle.basis_steps.specs.Pairs.{Pair, is_same_pair, pair_of}
 use Rattle.pair_queue.proofs.Tabling.{flagged_cleared, flagged_other}
-use Rattle.pair_queue.specs.Tables.{cleared, flagged}
+use Rattle.pair_queue.specs.Tables.{flag_cleared, flagged}
 
 -- the two members of a pair
 pub members_of_pair : (i k : ℕ) (x : Pair) → pair_of i k ≡ x → ((i ≡ x.0) × (k ≡ x.1)) ⊎ ((i ≡ x.1) × (k ≡ x.0))
@@ -19,7 +19,7 @@ members_of_pair i k x e = go (cases_lt i k)
 
 module _ {n : ℕ} (S : Setting n) (G : List (FormalSum n)) (before : Pair → Bool) (x y : Pair) where
   -- a criterion that applies goes on to apply
-  pub spared_still : CriterionApplies S G (flagged before) y → CriterionApplies S G (flagged (cleared before x)) y
+  pub spared_still : CriterionApplies S G (flagged before) y → CriterionApplies S G (flagged (flag_cleared before x)) y
   spared_still (inl p) = inl p
   spared_still (inr (k, c)) = inr (
     k,
@@ -37,10 +37,10 @@ module _ {n : ℕ} (S : Setting n) (G : List (FormalSum n)) (before : Pair → B
   abbrev IsBy : ℕ → Type 0
   IsBy k = ((k ≡ x.1) × ((y.0 ≡ x.0) ⊎ (y.1 ≡ x.0))) ⊎ ((k ≡ x.0) × ((y.0 ≡ x.1) ⊎ (y.1 ≡ x.1)))
 
-  pub chain_by : (k : ℕ) → (ChainApplies G (flagged before) y k → ⊥) → ChainApplies G (flagged (cleared before x)) y k → IsBy k
+  pub chain_by : (k : ℕ) → (ChainApplies G (flagged before) y k → ⊥) → ChainApplies G (flagged (flag_cleared before x)) y k → IsBy k
   chain_by k not h = go (is_same_pair (pair_of y.0 k) x) refl (is_same_pair (pair_of k y.1) x) refl
     where
-      other : (z : Pair) → is_same_pair z x ≡ false → flagged (cleared before x) z ≡ 0 → flagged before z ≡ 0
+      other : (z : Pair) → is_same_pair z x ≡ false → flagged (flag_cleared before x) z ≡ 0 → flagged before z ≡ 0
       other z e f = sym (flagged_other before x z e) ∙ f
 
       left : ((y.0 ≡ x.0) × (k ≡ x.1)) ⊎ ((y.0 ≡ x.1) × (k ≡ x.0)) → IsBy k

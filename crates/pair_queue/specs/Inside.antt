@@ -11,7 +11,7 @@ use Rattle.pair_updates.specs.Pairs.{IsRealPair, pairs_of, AreIndices}
 use Rattle.pair_queue.specs.Outs.{outs_of}
 use Rattle.pair_queue.specs.Shown.{PairsShown}
 use Rattle.pair_queue.specs.Skipping.{IsKnown}
-use Rattle.pair_queue.specs.Tables.{IsFlagTable, flag, size}
+use Rattle.pair_queue.specs.Tables.{IsFlagTable, flag, member_count}
 
 abbrev pub queue_shown : Inside → PairsShown
 queue_shown s = record { leads = s.leads; queue = s.queue.items; out = outs_of s.out.items; update = s.update; dropped = drops_of s.dropped.items }
@@ -21,7 +21,7 @@ pub record IsCoherent (s : Inside) : Type 0 where
   pub real : Each (IsRealPair s.leads) s.queue.items
   pub sorted : IsSorted (setting_of_leads s.leads.variables s.leads) (sums_shown s.leads) (pairs_of s.queue.items)
   pub within : Each (AreIndices (length s.leads.keys)) (pairs_out (outs_of s.out.items))
-  pub waits_size : s.update ≡ Plain → size s.waits ≡ length s.leads.keys
-  pub due_size : s.update ≡ Plain → size s.due ≡ length s.leads.keys
+  pub waits_size : s.update ≡ Plain → member_count s.waits ≡ length s.leads.keys
+  pub due_size : s.update ≡ Plain → member_count s.due ≡ length s.leads.keys
   pub table : s.update ≡ Plain → IsFlagTable (flag s.waits) (pairs_of s.queue.items) (outs_of s.out.items)
   pub known : s.update ≡ Plain → Each (IsKnown s.leads (flag s.waits) (flag s.due)) (pairs_of s.queue.items)

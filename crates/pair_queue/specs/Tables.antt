@@ -10,8 +10,8 @@ pub record TableShown : Type 0 where
   pub rows : List FlagRowShown
 
 -- for how many members it is
-abbrev pub size : TableShown → ℕ
-size t = t.members
+abbrev pub member_count : TableShown → ℕ
+member_count t = t.members
 
 -- for how many members there is room
 abbrev pub room : TableShown → ℕ
@@ -31,7 +31,7 @@ flag t x = ltb x.1 t.members && flag_in t.rows x
 
 -- two tables are for as many members, and have the same flags
 pub record HasSameFlags (t u : TableShown) : Type 0 where
-  pub sizes : size u ≡ size t
+  pub sizes : member_count u ≡ member_count t
   pub flags : (x : Pair) → flag u x ≡ flag t x
 
 -- the flag as a number
@@ -39,8 +39,8 @@ abbrev pub flagged : (Pair → Bool) → Pair → ℕ
 flagged f x = cond (f x) 1 0
 
 -- the flags where this pair has none
-abbrev pub cleared : (Pair → Bool) → Pair → Pair → Bool
-cleared f x y = cond (is_same_pair y x) false (f y)
+abbrev pub flag_cleared : (Pair → Bool) → Pair → Pair → Bool
+flag_cleared f x y = cond (is_same_pair y x) false (f y)
 
 -- each pair that waits has its flag, and no other
 pub record IsFlagTable (f : Pair → Bool) (queue : List Pair) (out : List (Pair × ℕ)) : Type 0 where

@@ -5,8 +5,8 @@ ghost use Rattle.basis_steps.specs.Criteria.{IsPair};
 ghost use Rattle.basis_steps.specs.Pairs.{Pair as PlainPair, count};
 ghost use Rattle.pair_updates.specs.LeadCriteria.{ProductSpares};
 ghost use Rattle.pair_updates.specs.Leads.{sums_shown};
-ghost use Rattle.pair_updates.specs.Pairs.{pair_of as indices_of, pairs_of};
-ghost use Rattle.pair_queue.specs.Tables.{flag, size};
+ghost use Rattle.pair_updates.specs.Pairs.{index_pair_of, pairs_of};
+ghost use Rattle.pair_queue.specs.Tables.{flag, member_count};
 
 use crate::table::Table;
 use pair_criteria::Pair;
@@ -14,11 +14,11 @@ use pair_updates::{Leads, product_spares};
 
 /// The pairs wait, and those are due to which the product criterion does not apply.
 pub(crate) fn flag_pairs(leads: &Leads, pairs: &[Pair], waits: &mut Table, due: &mut Table)
-    requires real { Each (λ x. IsPair (sums_shown leads.now) (indices_of x)) pairs.now }
-    requires waits { size waits.old ≡ length leads.now.keys }
-    requires due { size due.old ≡ length leads.now.keys }
-    ensures waits_size { size waits.new ≡ size waits.old }
-    ensures due_size { size due.new ≡ size due.old }
+    requires real { Each (λ x. IsPair (sums_shown leads.now) (index_pair_of x)) pairs.now }
+    requires waits { member_count waits.old ≡ length leads.now.keys }
+    requires due { member_count due.old ≡ length leads.now.keys }
+    ensures waits_size { member_count waits.new ≡ member_count waits.old }
+    ensures due_size { member_count due.new ≡ member_count due.old }
     ensures waits { (x : PlainPair) → (flag waits.new) x ≡ cond (ltb 0 (count x (pairs_of pairs.now))) true ((flag waits.old) x) }
     ensures others { (x : PlainPair) → count x (pairs_of pairs.now) ≡ 0 → (flag due.new) x ≡ (flag due.old) x }
     ensures shut { (x : PlainPair) → 0 < count x (pairs_of pairs.now) → (flag due.new) x ≡ false → ProductSpares leads.now x }

@@ -10,7 +10,7 @@ ghost use Rattle.pair_queue.specs.Giving.{HasCleared};
 ghost use Rattle.pair_queue.specs.Outs.{outs_of};
 ghost use Rattle.pair_updates.specs.Pairs.{pairs_of, AreIndices};
 ghost use Rattle.pair_queue.specs.Skipping.{IsKnown};
-ghost use Rattle.pair_queue.specs.Tables.{IsFlagTable, flag, size};
+ghost use Rattle.pair_queue.specs.Tables.{IsFlagTable, flag, member_count};
 
 use crate::closing::pass;
 use crate::out::Out;
@@ -40,10 +40,10 @@ pub(crate) fn give(worker: u32, pairs: &[Pair], out: &mut Vec<Out>, given: &mut 
 // The pairs of the worker wait no more.
 fn pass_all(worker: u32, out: &[Out], leads: &Leads, waits: &mut Table, due: &mut Table)
     requires within { Each (λ o. AreIndices (length leads.now.keys) (o.i, o.j)) out.now }
-    requires waits { size waits.old ≡ length leads.now.keys }
-    requires due { size due.old ≡ length leads.now.keys }
-    ensures waits_size { size waits.new ≡ size waits.old }
-    ensures due_size { size due.new ≡ size due.old }
+    requires waits { member_count waits.old ≡ length leads.now.keys }
+    requires due { member_count due.old ≡ length leads.now.keys }
+    ensures waits_size { member_count waits.new ≡ member_count waits.old }
+    ensures due_size { member_count due.new ≡ member_count due.old }
     ensures flags { HasCleared (job_of worker (outs_of out.now)) (flag waits.old) (flag waits.new) }
     ensures known { (x : PlainPair) → x.0 < x.1 → count x (job_of worker (outs_of out.now)) ≡ 0
         → IsKnown leads.now (flag waits.old) (flag due.old) x → IsKnown leads.now (flag waits.new) (flag due.new) x }
@@ -58,11 +58,11 @@ fn pass_all(worker: u32, out: &[Out], leads: &Leads, waits: &mut Table, due: &mu
 // The pairs of the worker are out no more, nor do they wait. It takes no memory.
 fn close_job(worker: u32, out: &mut Vec<Out>, leads: &Leads, waits: &mut Table, due: &mut Table)
     requires within { Each (λ o. AreIndices (length leads.now.keys) (o.i, o.j)) out.old.items }
-    requires waits { size waits.old ≡ length leads.now.keys }
-    requires due { size due.old ≡ length leads.now.keys }
+    requires waits { member_count waits.old ≡ length leads.now.keys }
+    requires due { member_count due.old ≡ length leads.now.keys }
     ensures out { outs_of out.new.items ≡ with_others worker (outs_of out.old.items) }
-    ensures waits_size { size waits.new ≡ size waits.old }
-    ensures due_size { size due.new ≡ size due.old }
+    ensures waits_size { member_count waits.new ≡ member_count waits.old }
+    ensures due_size { member_count due.new ≡ member_count due.old }
     ensures table { (queue : List PlainPair) → IsFlagTable (flag waits.old) queue (outs_of out.old.items)
         → IsFlagTable (flag waits.new) queue (outs_of out.new.items) }
     ensures known { (queue : List PlainPair) → Each (AreIndices (length leads.now.keys)) queue → IsFlagTable (flag waits.old) queue (outs_of out.old.items)
@@ -82,11 +82,11 @@ pub(crate) fn close_by_update(
     due: &mut Table,
 )
     requires within { Each (λ o. AreIndices (length leads.now.keys) (o.i, o.j)) out.old.items }
-    requires waits { update ≡ updates.Plain → size waits.old ≡ length leads.now.keys }
-    requires due { update ≡ updates.Plain → size due.old ≡ length leads.now.keys }
+    requires waits { update ≡ updates.Plain → member_count waits.old ≡ length leads.now.keys }
+    requires due { update ≡ updates.Plain → member_count due.old ≡ length leads.now.keys }
     ensures out { outs_of out.new.items ≡ with_others worker (outs_of out.old.items) }
-    ensures waits_size { update ≡ updates.Plain → size waits.new ≡ size waits.old }
-    ensures due_size { update ≡ updates.Plain → size due.new ≡ size due.old }
+    ensures waits_size { update ≡ updates.Plain → member_count waits.new ≡ member_count waits.old }
+    ensures due_size { update ≡ updates.Plain → member_count due.new ≡ member_count due.old }
     ensures table { update ≡ updates.Plain → (queue : List PlainPair) → IsFlagTable (flag waits.old) queue (outs_of out.old.items)
         → IsFlagTable (flag waits.new) queue (outs_of out.new.items) }
     ensures known { update ≡ updates.Plain → (queue : List PlainPair) → Each (AreIndices (length leads.now.keys)) queue

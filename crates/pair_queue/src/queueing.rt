@@ -10,7 +10,7 @@ ghost use Rattle.pair_updates.specs.Dropping.{drops_of};
 ghost use Rattle.pair_updates.specs.Leads.{lead_sums, setting_of_leads, sums_shown};
 ghost use Rattle.pair_updates.specs.Pairs.{IsRealPair, pairs_of, AreIndices};
 ghost use Rattle.pair_queue.specs.Skipping.{IsKnown};
-ghost use Rattle.pair_queue.specs.Tables.{HasSameFlags, IsFlagTable, flag, size};
+ghost use Rattle.pair_queue.specs.Tables.{HasSameFlags, IsFlagTable, flag, member_count};
 
 use crate::flags::flag_pairs;
 use crate::queue::Queue;
@@ -64,13 +64,13 @@ pub(crate) fn queue_new_pairs(
     requires real { Each (IsRealPair leads.now) queue.old.items }
     requires within { Each (AreIndices first) (pairs_of queue.old.items) }
     requires sorted { IsSorted (setting_of_leads leads.now.variables leads.now) (sums_shown leads.now) (pairs_of queue.old.items) }
-    requires waits { size waits.old ≡ first }
-    requires due { size due.old ≡ first }
+    requires waits { member_count waits.old ≡ first }
+    requires due { member_count due.old ≡ first }
     ensures real { OnOk result (Each (IsRealPair leads.now) queue.new.items) }
     ensures queues { OnOk result (QueuesNewPairs (setting_of_leads leads.now.variables leads.now) first
         (sums_shown leads.now) (pairs_of queue.old.items) (pairs_of queue.new.items)) }
-    ensures waits { OnOk result (size waits.new ≡ length leads.now.keys) }
-    ensures due { OnOk result (size due.new ≡ length leads.now.keys) }
+    ensures waits { OnOk result (member_count waits.new ≡ length leads.now.keys) }
+    ensures due { OnOk result (member_count due.new ≡ length leads.now.keys) }
     ensures table { OnOk result ((out : List (PlainPair × ℕ)) → Each (AreIndices first) (pairs_out out)
         → IsFlagTable (flag waits.old) (pairs_of queue.old.items) out → IsFlagTable (flag waits.new) (pairs_of queue.new.items) out) }
     ensures known { OnOk result ((out : List (PlainPair × ℕ)) → IsFlagTable (flag waits.old) (pairs_of queue.old.items) out
@@ -109,14 +109,14 @@ pub(crate) fn queue_by(
     requires real { Each (IsRealPair leads.now) queue.old.items }
     requires within { Each (AreIndices first) (pairs_of queue.old.items) }
     requires sorted { IsSorted (setting_of_leads leads.now.variables leads.now) (sums_shown leads.now) (pairs_of queue.old.items) }
-    requires waits { update ≡ updates.Plain → size waits.old ≡ first }
-    requires due { update ≡ updates.Plain → size due.old ≡ first }
+    requires waits { update ≡ updates.Plain → member_count waits.old ≡ first }
+    requires due { update ≡ updates.Plain → member_count due.old ≡ first }
     ensures real { OnOk result (Each (IsRealPair leads.now) queue.new.items) }
     ensures queues { OnOk result (QueuesPairs update (setting_of_leads leads.now.variables leads.now) first (sums_shown leads.now)
         (pairs_of queue.old.items) (drops_of dropped.old.items) (pairs_of queue.new.items) (drops_of dropped.new.items)) }
     ensures sorted { OnOk result (IsSorted (setting_of_leads leads.now.variables leads.now) (sums_shown leads.now) (pairs_of queue.new.items)) }
-    ensures waits { OnOk result (update ≡ updates.Plain → size waits.new ≡ length leads.now.keys) }
-    ensures due { OnOk result (update ≡ updates.Plain → size due.new ≡ length leads.now.keys) }
+    ensures waits { OnOk result (update ≡ updates.Plain → member_count waits.new ≡ length leads.now.keys) }
+    ensures due { OnOk result (update ≡ updates.Plain → member_count due.new ≡ length leads.now.keys) }
     ensures table { OnOk result (update ≡ updates.Plain → (out : List (PlainPair × ℕ)) → Each (AreIndices first) (pairs_out out)
         → IsFlagTable (flag waits.old) (pairs_of queue.old.items) out → IsFlagTable (flag waits.new) (pairs_of queue.new.items) out) }
     ensures known { OnOk result (update ≡ updates.Plain → (out : List (PlainPair × ℕ)) → IsFlagTable (flag waits.old) (pairs_of queue.old.items) out

@@ -4,9 +4,9 @@ ghost use Rattle.std.specs.Vec.{vec_capacity};
 ghost use Rattle.formal_sums.specs.FormalSums.{Each};
 ghost use Rattle.pair_criteria.specs.declared.pair.Pair.{Pair as CodePair};
 ghost use Rattle.pair_updates.specs.Leads.{LeadsShown, setting_of_leads, sums_shown};
-ghost use Rattle.pair_updates.specs.Pairs.{IsRealPair, pair_of, pairs_of, AreIndices};
+ghost use Rattle.pair_updates.specs.Pairs.{IsRealPair, index_pair_of, pairs_of, AreIndices};
 ghost use Rattle.pair_queue.specs.Skipping.{AreSkipped, IsKnown, IsSpared, NoneIsSpared};
-ghost use Rattle.pair_queue.specs.Tables.{IsFlagTable, cleared, flag, size};
+ghost use Rattle.pair_queue.specs.Tables.{IsFlagTable, flag, flag_cleared, member_count};
 ghost use Rattle.basis_steps.specs.Pairs.{Pair as PlainPair};
 ghost use Rattle.basis_steps.specs.Queues.{IsSorted};
 ghost use Rattle.queue_updates.specs.declared.Update.TheVariants as updates;
@@ -36,11 +36,11 @@ fn count_before(kept: &[Pair], monomial: &Mono) -> usize
 
 // How many of the kept pairs stand before the first that is not due. Of the first `before` none is.
 fn count_due(due: &Table, kept: &[Pair], before: usize) -> usize
-    requires within { Each (λ x. AreIndices (size due.now) (pair_of x)) kept.now }
+    requires within { Each (λ x. AreIndices (member_count due.now) (index_pair_of x)) kept.now }
     requires before { before ≤ length kept.now }
     ensures few { result ≤ length kept.now }
     ensures before { before ≤ result }
-    ensures due { (k : ℕ) (x : CodePair) → before ≤ k → k < result → x ≡ get_or kept.now k x → (flag due.now) (pair_of x) ≡ true }
+    ensures due { (k : ℕ) (x : CodePair) → before ≤ k → k < result → x ≡ get_or kept.now k x → (flag due.now) (index_pair_of x) ≡ true }
 {
     for k in before..kept.len() {
         let x = &kept[k];
@@ -84,8 +84,8 @@ fn skip_pair(
     next: usize,
     pair: (u64, u64),
 ) -> (usize, usize)
-    requires waits { size waits.old ≡ length leads.now.keys }
-    requires due { size due.old ≡ length leads.now.keys }
+    requires waits { member_count waits.old ≡ length leads.now.keys }
+    requires due { member_count due.old ≡ length leads.now.keys }
     requires real { Each (IsRealPair leads.now) queue.old.items }
     requires kept { kept ≤ next }
     requires next { next < length queue.old.items }
@@ -97,9 +97,9 @@ fn skip_pair(
     requires none { NoneIsSpared leads.now (flag waits.old) (pairs_of (take kept queue.old.items)) }
     requires known { Each (IsKnown leads.now (flag waits.old) (flag due.old))
         (pairs_of (take kept queue.old.items) ++ pairs_of (drop (next + 1) queue.old.items)) }
-    ensures waits { (flag waits.new) ≡ cleared (flag waits.old) pair }
-    ensures waits_size { size waits.new ≡ size waits.old }
-    ensures due_size { size due.new ≡ size due.old }
+    ensures waits { (flag waits.new) ≡ flag_cleared (flag waits.old) pair }
+    ensures waits_size { member_count waits.new ≡ member_count waits.old }
+    ensures due_size { member_count due.new ≡ member_count due.old }
     ensures fewer { result.0 ≤ kept }
     ensures place { result.1 + kept ≡ next + 1 + result.0 }
     ensures len { length queue.new.items ≡ length queue.old.items }
@@ -141,14 +141,14 @@ pub(crate) fn skip(
     queue: &mut Queue,
     skipped: &mut Vec<(u64, u64)>,
 )
-    requires waits { size waits.old ≡ length leads.now.keys }
-    requires due { size due.old ≡ length leads.now.keys }
+    requires waits { member_count waits.old ≡ length leads.now.keys }
+    requires due { member_count due.old ≡ length leads.now.keys }
     requires real { Each (IsRealPair leads.now) queue.old.items }
     requires sorted { IsSorted (setting_of_leads leads.now.variables leads.now) (sums_shown leads.now) (pairs_of queue.old.items) }
     requires skipped { (skipped.old.items ≡ []) × (length queue.old.items ≤ vec_capacity skipped.old) }
     requires known { Each (IsKnown leads.now (flag waits.old) (flag due.old)) (pairs_of queue.old.items) }
-    ensures waits_size { size waits.new ≡ size waits.old }
-    ensures due_size { size due.new ≡ size due.old }
+    ensures waits_size { member_count waits.new ≡ member_count waits.old }
+    ensures due_size { member_count due.new ≡ member_count due.old }
     ensures few { length queue.new.items ≤ length queue.old.items }
     ensures real { Each (IsRealPair leads.now) queue.new.items }
     ensures skips { (out : List (PlainPair × ℕ)) → IsFlagTable (flag waits.old) (pairs_of queue.old.items) out
@@ -183,14 +183,14 @@ pub(crate) fn skip_by(
     queue: &mut Queue,
     skipped: &mut Vec<(u64, u64)>,
 )
-    requires waits { update ≡ updates.Plain → size waits.old ≡ length leads.now.keys }
-    requires due { update ≡ updates.Plain → size due.old ≡ length leads.now.keys }
+    requires waits { update ≡ updates.Plain → member_count waits.old ≡ length leads.now.keys }
+    requires due { update ≡ updates.Plain → member_count due.old ≡ length leads.now.keys }
     requires real { Each (IsRealPair leads.now) queue.old.items }
     requires sorted { IsSorted (setting_of_leads leads.now.variables leads.now) (sums_shown leads.now) (pairs_of queue.old.items) }
     requires skipped { (skipped.old.items ≡ []) × (length queue.old.items ≤ vec_capacity skipped.old) }
     requires known { update ≡ updates.Plain → Each (IsKnown leads.now (flag waits.old) (flag due.old)) (pairs_of queue.old.items) }
-    ensures waits_size { update ≡ updates.Plain → size waits.new ≡ size waits.old }
-    ensures due_size { update ≡ updates.Plain → size due.new ≡ size due.old }
+    ensures waits_size { update ≡ updates.Plain → member_count waits.new ≡ member_count waits.old }
+    ensures due_size { update ≡ updates.Plain → member_count due.new ≡ member_count due.old }
     ensures few { length queue.new.items ≤ length queue.old.items }
     ensures real { Each (IsRealPair leads.now) queue.new.items }
     ensures skips { update ≡ updates.Plain → (out : List (PlainPair × ℕ)) → IsFlagTable (flag waits.old) (pairs_of queue.old.items) out

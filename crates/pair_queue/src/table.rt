@@ -2,7 +2,7 @@
 ghost use Rattle.std.specs.Int.{bit_at};
 ghost use Rattle.std.specs.Prelude.{ℕ, ◌≡◌, ◌<◌, ◌≤◌, ◌+◌, ◌*◌, ◌&&◌, ◌==◌, OnErr, OnOk, cond, false, length, nat_eq, not};
 ghost use Rattle.basis_steps.specs.Pairs.{Pair as PlainPair, is_same_pair, pair_of};
-ghost use Rattle.pair_queue.specs.Tables.{AreWide, AreWideTo, HasSameFlags, flag, has_at, room, size};
+ghost use Rattle.pair_queue.specs.Tables.{AreWide, AreWideTo, HasSameFlags, flag, has_at, member_count, room};
 
 use crate::row::Row;
 use module_vectors::NoMemory;
@@ -105,7 +105,7 @@ fn push_rows(alloc: Global, rows: &mut Vec<Row>, width: usize) -> Result<(), NoM
 impl Table {
     /// A table for no members.
     pub(crate) fn new(alloc: Global) -> Table
-        ensures sizes { size result ≡ 0 }
+        ensures sizes { member_count result ≡ 0 }
         ensures flags { (x : PlainPair) → (flag result) x ≡ false }
     {
         Table {
@@ -130,9 +130,9 @@ impl Table {
 
     /// Now it is for so many members, for which it has room. The flags stay, and the pairs of new members have none.
     pub(crate) fn grow(&mut self, count: usize)
-        requires more { size self.old ≤ count }
+        requires more { member_count self.old ≤ count }
         requires room { count ≤ room self.old }
-        ensures sizes { size self.new ≡ count }
+        ensures sizes { member_count self.new ≡ count }
         ensures flags { (x : PlainPair) → (flag self.new) x ≡ (flag self.old) x }
     {
         self.members = count;
@@ -141,7 +141,7 @@ impl Table {
     /// Has the pair of i and j its flag?
     pub(crate) fn has(&self, i: usize, j: usize) -> bool
         requires order { i < j }
-        requires within { j < size self.now }
+        requires within { j < member_count self.now }
         ensures { result ≡ (flag self.now) (i, j) }
     {
         self.rows[j].has(i)
@@ -150,8 +150,8 @@ impl Table {
     /// Gives the pair of i and j its flag, or takes it away.
     pub(crate) fn put(&mut self, i: usize, j: usize, set: bool)
         requires order { i < j }
-        requires within { j < size self.old }
-        ensures sizes { size self.new ≡ size self.old }
+        requires within { j < member_count self.old }
+        ensures sizes { member_count self.new ≡ member_count self.old }
         ensures flags { (x : PlainPair) → (flag self.new) x ≡ cond (is_same_pair x (i, j)) set ((flag self.old) x) }
     {
         put_at(&mut self.rows, j, i, set);
@@ -161,9 +161,9 @@ impl Table {
     /// Which of the 64 members from number 64·`index` on have their flag with a here, and none with b in the other table: a bit for
     /// each.
     pub(crate) fn word_without(&self, a: usize, other: &Table, b: usize, index: usize) -> u64
-        requires a { a < size self.now }
-        requires b { b < size self.now }
-        requires sizes { size other.now ≡ size self.now }
+        requires a { a < member_count self.now }
+        requires b { b < member_count self.now }
+        requires sizes { member_count other.now ≡ member_count self.now }
         ensures { (r : ℕ) → r < 64
             → (bit_at result r == 1) ≡ (flag self.now (pair_of a (64 * index + r)) && not (flag other.now (pair_of b (64 * index + r)))) }
     {

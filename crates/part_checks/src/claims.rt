@@ -1,5 +1,5 @@
 ghost use Rattle.std.specs.Prelude.{◌≡◌, ◌+◌, ◌<◌, ◌∷◌, [], ◌++◌, length, slice_index, IfSome};
-ghost use Rattle.pivot_table.specs.Law.{IsSeatOf, told, entry, found_by, word_of};
+ghost use Rattle.pivot_table.specs.Law.{IsSeatOf, told, entry, found_by, claim_word};
 
 use pivot_table::{Claim, ClaimSeat, Claims};
 use std::alloc::Global;
@@ -31,7 +31,7 @@ fn helped(claims: &Claims, mut seat: ClaimSeat, row: u64) -> (Claim, ClaimSeat)
     requires seat { IsSeatOf claims.now.table.shared.table_id claims.now.rows.leads.items seat }
     requires row { row < length claims.now.rows.leads.items }
     ensures seat { IsSeatOf claims.now.table.shared.table_id claims.now.rows.leads.items result.1 }
-    ensures told { told result.1 ≡ told seat ++ entry (slice_index claims.now.rows.leads.items row) (found_by result.0) (word_of row result.0) ∷ [] }
+    ensures told { told result.1 ≡ told seat ++ entry (slice_index claims.now.rows.leads.items row) (found_by result.0) (claim_word row result.0) ∷ [] }
 {
     let claim = claims.claim(&mut seat, row);
     (claim, seat)

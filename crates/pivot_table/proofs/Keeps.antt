@@ -16,7 +16,7 @@ use Rattle.pivot_table.proofs.Totals.{total-append, total_set, total_at, alone, 
 use Rattle.pivot_table.specs.declared.law.Entry.{Entry}
 use Rattle.pivot_table.specs.declared.law.View.{View}
 use Rattle.pivot_table.specs.declared.law.Rows.{Rows}
-use Rattle.pivot_table.specs.Law.{Kept, NamesRowOf, Agrees, IsAsTold, LeadsFit, Tallies, view, entry, total, unit, parts, halvings, AreWhole, kept_half, given_half, AreHeldOrWon, won, wins, was_held, claimed, looked, option_word, word_row}
+use Rattle.pivot_table.specs.Law.{Kept, NamesRowOf, Agrees, IsAsTold, LeadsFit, Tallies, view, entry, total_by, rows_named, parts, halvings, AreWhole, kept_half, given_half, AreHeldOrWon, won, wins, was_held, claimed, looked_up, option_word, word_row}
 
 same_length : {A B : Type 0} (f : A → B) (l : List A) → length (map f l) ≡ length l
 same_length f l = length-map l f
@@ -26,18 +26,18 @@ still_told : (ws us : List ℕ) (told : List Entry) → ((c : ℕ) → 0 < get_o
 still_told ws us told stays a = All-weaker (IsAsTold ws) (IsAsTold us) (λ e was some_row. let w = was some_row in stays e.column (subst (λ (z : ℕ). 0 < z) (sym w) some_row) ∙ w) told a
 
 won_else : (c i b n : ℕ) → c ≢ i → won c (entry i b n) ≡ 0
-won_else c i b n ne = ap (λ t. cond t (cond (eqb b 0) (unit n) 0) 0) (ne_eqb i c (λ e. ne (sym e)))
+won_else c i b n ne = ap (λ t. cond t (cond (eqb b 0) (rows_named n) 0) 0) (ne_eqb i c (λ e. ne (sym e)))
 
-won_here : (c i b n : ℕ) → c ≡ i → won c (entry i b n) ≡ cond (eqb b 0) (unit n) 0
-won_here c i b n e = ap (λ t. cond t (cond (eqb b 0) (unit n) 0) 0) (eq-eqb i c (sym e))
+won_here : (c i b n : ℕ) → c ≡ i → won c (entry i b n) ≡ cond (eqb b 0) (rows_named n) 0
+won_here c i b n e = ap (λ t. cond t (cond (eqb b 0) (rows_named n) 0) 0) (eq-eqb i c (sym e))
 
 -- no win where a column without a row gets none
 won_idle : (c i b n : ℕ) → (b ≡ 0 → n ≡ 0) → won c (entry i b n) ≡ 0
 won_idle c i b n h = dite (ℕ_discrete c i)
-    (λ e. won_here c i b n e ∙ dite (ℕ_discrete b 0) (λ z. ap (λ q. cond q (unit n) 0) (eq-eqb b 0 z) ∙ ap unit (h z)) (λ nz. ap (λ q. cond q (unit n) 0) (ne_eqb b 0 nz)))
+    (λ e. won_here c i b n e ∙ dite (ℕ_discrete b 0) (λ z. ap (λ q. cond q (rows_named n) 0) (eq-eqb b 0 z) ∙ ap rows_named (h z)) (λ nz. ap (λ q. cond q (rows_named n) 0) (ne_eqb b 0 nz)))
     (λ ne. won_else c i b n ne)
 
-wins-snoc : (c : ℕ) (leads : List ℕ) (told : List Entry) (e : Entry) (shares : List ℕ) → wins c (view leads (told ++ e ∷ []) shares) ≡ total (won c) told + won c e
+wins-snoc : (c : ℕ) (leads : List ℕ) (told : List Entry) (e : Entry) (shares : List ℕ) → wins c (view leads (told ++ e ∷ []) shares) ≡ total_by (won c) told + won c e
 wins-snoc c leads told e shares = omega (arith, total-append (won c) told (e ∷ []))
 
 abbrev Depth : View → ℕ
@@ -82,10 +82,10 @@ module _ {S : Type 0} (leads : List ℕ) (held : List (Option ℕ)) where
             dite (ℕ_discrete c i)
             (λ e. let now : get_or us c 0 ≡ n = ap (λ (z : ℕ). get_or us z 0) e ∙ here in let old : get_or s.words c 0 ≡ b = ap (λ (z : ℕ). get_or s.words z 0) e ∙ sym found in
             let x = won_here c i b n e in dite (ℕ_discrete b 0)
-            (λ z. let y : won c (entry i b n) ≡ unit n = x ∙ ap (λ q. cond q (unit n) 0) (eq-eqb b 0 z) in let none : unit (get_or s.words c 0) ≡ 0 = ap unit (old ∙ z) in let one : unit (get_or us c 0) ≡ unit n = ap unit now in omega arith)
-            (λ nz. let y : won c (entry i b n) ≡ 0 = x ∙ ap (λ q. cond q (unit n) 0) (ne_eqb b 0 nz) in let same : n ≡ get_or s.words c 0 = stay (omega (arith, nz)) ∙ (sym found ∙ sym old) in
-            let one : unit (get_or us c 0) ≡ unit (get_or s.words c 0) = ap unit (now ∙ same) in omega arith))
-            (λ ne. let y = won_else c i b n ne in let one : unit (get_or us c 0) ≡ unit (get_or s.words c 0) = ap unit (else_where c ne) in omega arith);
+            (λ z. let y : won c (entry i b n) ≡ rows_named n = x ∙ ap (λ q. cond q (rows_named n) 0) (eq-eqb b 0 z) in let none : rows_named (get_or s.words c 0) ≡ 0 = ap rows_named (old ∙ z) in let one : rows_named (get_or us c 0) ≡ rows_named n = ap rows_named now in omega arith)
+            (λ nz. let y : won c (entry i b n) ≡ 0 = x ∙ ap (λ q. cond q (rows_named n) 0) (ne_eqb b 0 nz) in let same : n ≡ get_or s.words c 0 = stay (omega (arith, nz)) ∙ (sym found ∙ sym old) in
+            let one : rows_named (get_or us c 0) ≡ rows_named (get_or s.words c 0) = ap rows_named (now ∙ same) in omega arith))
+            (λ ne. let y = won_else c i b n ne in let one : rows_named (get_or us c 0) ≡ rows_named (get_or s.words c 0) = ap rows_named (else_where c ne) in omega arith);
         shared = λ d deep. let p = total_set (Part d) s.views id v w at in let q = total_set Depth s.views id v w at in let was = r.shared d (omega arith) in omega arith;
         spent = λ j u e none. ⊎_elim
             (λ (t : (j ≡ id) × (w ≡ u)). subst Idle t.1 (let was = r.spent id v at (ap (λ (z : View). z.shares) t.1 ∙ none) in
@@ -109,7 +109,7 @@ module _ {S : Type 0} (leads : List ℕ) (held : List (Option ℕ)) where
       (view me.0.leads (me.0.told ++ entry i n m ∷ []) me.0.shares, keeps, tt, told_one s r i n m id me.1 me.0 refl (omega arith) at stay names idle, (refl, subst (λ (z : List ℕ). NamesRowOf z i m) (sym same) names))
 
   pub looks : (slots id i : ℕ) (me : Me S View) → i < length held → me.0.leads ≡ leads
-      → Allows Rule slots id me i (λ n. n) (looked (step slots i 0 0 maybe.none) me)
+      → Allows Rule slots id me i (λ n. n) (looked_up (step slots i 0 0 maybe.none) me)
   looks slots id i me inside same s r _ at _ =
       let n : ℕ = get_or s.words i 0 in
       let wide = r.wide in
@@ -117,8 +117,8 @@ module _ {S : Type 0} (leads : List ℕ) (held : List (Option ℕ)) where
       (view me.0.leads (me.0.told ++ entry i n n ∷ []) me.0.shares, keeps, tt, told_one s r i n n id me.1 me.0 refl (omega arith) at (λ _. refl) names (λ _ z. z), (refl, subst (λ (z : List ℕ). NamesRowOf z i n) (sym same) names))
 
   -- the views alone change
-  reseated : (s : State S View) (r : Rule s) (views : List View) → ((j : ℕ) (v : View) → get_elem? views j ≡ maybe.some v → Agrees s.words v.told) → ((c : ℕ) → total (wins c) views ≡ total (wins c) s.views)
-      → ((d : ℕ) → total Depth views ≤ d → total (Part d) views ≡ 2 ^ d) → ((j : ℕ) (v : View) → get_elem? views j ≡ maybe.some v → v.shares ≡ [] → Idle v)
+  reseated : (s : State S View) (r : Rule s) (views : List View) → ((j : ℕ) (v : View) → get_elem? views j ≡ maybe.some v → Agrees s.words v.told) → ((c : ℕ) → total_by (wins c) views ≡ total_by (wins c) s.views)
+      → ((d : ℕ) → total_by Depth views ≤ d → total_by (Part d) views ≡ 2 ^ d) → ((j : ℕ) (v : View) → get_elem? views j ≡ maybe.some v → v.shares ≡ [] → Idle v)
       → Rule record { words = s.words; homes = s.homes; views = views }
   reseated s r views each same shared spent = record {
     wide = r.wide;
@@ -194,7 +194,7 @@ module _ {S : Type 0} (leads : List ℕ) (held : List (Option ℕ)) where
     stays = λ c k h. word_at c (Some k) h;
     each_seat = λ j u e. ⊎_elim (λ (t : get_elem? [] j ≡ maybe.some u). absurd (maybe.some-ne-none u (sym t)))
         (λ (t : view leads [] (0 ∷ []) ≡ u). subst (λ (z : View). Agrees (map option_word held) z.told) t (All-nil (IsAsTold (map option_word held)))) (at_snoc [] (view leads [] (0 ∷ [])) u j e);
-    once = λ c l. let l' : c < length held = omega (arith, same_length option_word held) in let e = ap unit (get_or-map option_word held c None 0 l') in omega arith;
+    once = λ c l. let l' : c < length held = omega (arith, same_length option_word held) in let e = ap rows_named (get_or-map option_word held c None 0 l') in omega arith;
     shared = λ d deep. omega (arith, whole_parts d);
     spent = λ j u e none. ⊎_elim (λ (t : get_elem? [] j ≡ maybe.some u). absurd (maybe.some-ne-none u (sym t)))
         (λ (t : view leads [] (0 ∷ []) ≡ u). let empty : 0 ∷ [] ≡ [] = ap (λ (z : View). z.shares) t ∙ none in absurd (cc)) (at_snoc [] (view leads [] (0 ∷ [])) u j e);
@@ -234,18 +234,18 @@ beyond words c k outside e = let past : get_or words c 0 ≡ 0 = get_or_past wor
 -- a step that is counted as a win
 won_means : (c : ℕ) (e : Entry) → 0 < won c e → (e.column ≡ c) × (e.before ≡ 0) × (0 < e.after)
 won_means c e some = dite (ℕ_discrete e.column c)
-    (λ a. let x : won c e ≡ cond (eqb e.before 0) (unit e.after) 0 = ap (λ t. cond t (cond (eqb e.before 0) (unit e.after) 0) 0) (eq-eqb e.column c a) in
+    (λ a. let x : won c e ≡ cond (eqb e.before 0) (rows_named e.after) 0 = ap (λ t. cond t (cond (eqb e.before 0) (rows_named e.after) 0) 0) (eq-eqb e.column c a) in
     dite (ℕ_discrete e.before 0)
-    (λ b. let y : won c e ≡ unit e.after = x ∙ ap (λ q. cond q (unit e.after) 0) (eq-eqb e.before 0 b) in (a, b, positive e.after (omega arith)))
-    (λ b. let y : won c e ≡ 0 = x ∙ ap (λ q. cond q (unit e.after) 0) (ne_eqb e.before 0 b) in absurd (omega arith)))
-    (λ a. let x : won c e ≡ 0 = ap (λ t. cond t (cond (eqb e.before 0) (unit e.after) 0) 0) (ne_eqb e.column c a) in absurd (omega arith))
+    (λ b. let y : won c e ≡ rows_named e.after = x ∙ ap (λ q. cond q (rows_named e.after) 0) (eq-eqb e.before 0 b) in (a, b, positive e.after (omega arith)))
+    (λ b. let y : won c e ≡ 0 = x ∙ ap (λ q. cond q (rows_named e.after) 0) (ne_eqb e.before 0 b) in absurd (omega arith)))
+    (λ a. let x : won c e ≡ 0 = ap (λ t. cond t (cond (eqb e.before 0) (rows_named e.after) 0) 0) (ne_eqb e.column c a) in absurd (omega arith))
   where
-    positive : (n : ℕ) → 0 < unit n → 0 < n
+    positive : (n : ℕ) → 0 < rows_named n → 0 < n
     positive zero h = h
     positive (suc n) h = omega arith
 
 -- a win that is counted was told
-win_told : (c k : ℕ) (words : List ℕ) (told : List Entry) → Agrees words told → get_or words c 0 ≡ k + 1 → 0 < total (won c) told → Contains told (entry c 0 (k + 1))
+win_told : (c k : ℕ) (words : List ℕ) (told : List Entry) → Agrees words told → get_or words c 0 ≡ k + 1 → 0 < total_by (won c) told → Contains told (entry c 0 (k + 1))
 win_told c k words [] agrees word some = absurd (omega arith)
 win_told c k words (e ∷ told) agrees word some = dite (ℕ_discrete (won c e) 0)
     (λ none. later (win_told c k words told (All-tail (IsAsTold words) e told agrees) word (omega arith)))
@@ -270,9 +270,9 @@ module _ (leads : List ℕ) (held : List (Option ℕ)) {S : Type 0} where
   }
 
   -- a seat that has the whole pass was told all wins
-  all_wins : (s : State S View) (r : Kept leads held s) (id : ℕ) (v : View) → get_elem? s.views id ≡ maybe.some v → AreWhole v.shares → (c : ℕ) → total (wins c) s.views ≡ wins c v
+  all_wins : (s : State S View) (r : Kept leads held s) (id : ℕ) (v : View) → get_elem? s.views id ≡ maybe.some v → AreWhole v.shares → (c : ℕ) → total_by (wins c) s.views ≡ wins c v
   all_wins s r id v at whole c =
-      let d : ℕ = total Depth s.views in
+      let d : ℕ = total_by Depth s.views in
       let all = r.shared d (omega arith) in
       let mine = whole d (total_at Depth s.views id v at) in
       alone (Part d) (wins c) s.views id v at (all ∙ sym mine) (λ j u e z. (r.spent j u e (no_parts d u.shares z)).1 c)
@@ -285,8 +285,8 @@ module _ (leads : List ℕ) (held : List (Option ℕ)) {S : Type 0} where
       from_old : (c k : ℕ) → get_or s.words c 0 ≡ k + 1 → c < length s.words → (o : Option ℕ) → get_or held c None ≡ o
           → (slice_get held c ≡ Some (Some k)) ⊎ Contains v.told (entry c 0 (k + 1))
       from_old c k word l None e =
-          let none : was_held held c ≡ 0 = ap (λ (z : Option ℕ). unit (option_word z)) e in
-          let one : unit (get_or s.words c 0) ≡ 1 = ap unit (word ∙ add-one k) in
+          let none : was_held held c ≡ 0 = ap (λ (z : Option ℕ). rows_named (option_word z)) e in
+          let one : rows_named (get_or s.words c 0) ≡ 1 = ap rows_named (word ∙ add-one k) in
           let once = r.once c l in let mine = all_wins s r id v at whole c in
           inr (win_told c k s.words v.told (r.each_seat id v at) word (omega arith))
       from_old c k word l (Some row) e =

@@ -4,32 +4,32 @@ use Rattle.std.proofs.Math.Nat.{pow-suc}
 use Rattle.std.proofs.lemmas.Nat.{pow_pos}
 use mathlib.Core.Option as maybe
 use lib.ListN.{get_elem?}
-use Rattle.pivot_table.specs.Law.{total, parts, halvings, kept_half, given_half}
+use Rattle.pivot_table.specs.Law.{total_by, parts, halvings, kept_half, given_half}
 
 module _ {A : Type 0} where
-  pub total-append : (f : A → ℕ) (xs ys : List A) → total f (xs ++ ys) ≡ total f xs + total f ys
+  pub total-append : (f : A → ℕ) (xs ys : List A) → total_by f (xs ++ ys) ≡ total_by f xs + total_by f ys
   total-append f [] ys = omega arith
   total-append f (x ∷ xs) ys = omega (arith, total-append f xs ys)
 
   -- the total after a change of one
-  pub total_set : (f : A → ℕ) (xs : List A) (i : ℕ) (v w : A) → get_elem? xs i ≡ maybe.some v → total f (set xs i w) + f v ≡ total f xs + f w
+  pub total_set : (f : A → ℕ) (xs : List A) (i : ℕ) (v w : A) → get_elem? xs i ≡ maybe.some v → total_by f (set xs i w) + f v ≡ total_by f xs + f w
   total_set f [] i v w e = absurd (maybe.some-ne-none v (sym e))
   total_set f (x ∷ xs) zero v w e = let same : f x ≡ f v = ap f (maybe.some-injective x v e) in omega arith
   total_set f (x ∷ xs) (suc i) v w e = omega (arith, total_set f xs i v w e)
 
   -- each is at most the total
-  pub total_at : (f : A → ℕ) (xs : List A) (i : ℕ) (v : A) → get_elem? xs i ≡ maybe.some v → f v ≤ total f xs
+  pub total_at : (f : A → ℕ) (xs : List A) (i : ℕ) (v : A) → get_elem? xs i ≡ maybe.some v → f v ≤ total_by f xs
   total_at f [] i v e = absurd (maybe.some-ne-none v (sym e))
   total_at f (x ∷ xs) zero v e = let same : f x ≡ f v = ap f (maybe.some-injective x v e) in omega arith
   total_at f (x ∷ xs) (suc i) v e = omega (arith, total_at f xs i v e)
 
-  nothing : (f g : A → ℕ) (xs : List A) → total f xs ≡ 0 → ((j : ℕ) (u : A) → get_elem? xs j ≡ maybe.some u → f u ≡ 0 → g u ≡ 0) → total g xs ≡ 0
+  nothing : (f g : A → ℕ) (xs : List A) → total_by f xs ≡ 0 → ((j : ℕ) (u : A) → get_elem? xs j ≡ maybe.some u → f u ≡ 0 → g u ≡ 0) → total_by g xs ≡ 0
   nothing f g [] z h = refl
   nothing f g (x ∷ xs) z h = let here = h 0 x refl (omega arith) in omega (arith, nothing f g xs (omega arith) (λ j u e. h (suc j) u e))
 
   -- where f is 0 at all others, so is g, which is 0 where f is
-  pub alone : (f g : A → ℕ) (xs : List A) (i : ℕ) (v : A) → get_elem? xs i ≡ maybe.some v → total f xs ≡ f v
-      → ((j : ℕ) (u : A) → get_elem? xs j ≡ maybe.some u → f u ≡ 0 → g u ≡ 0) → total g xs ≡ g v
+  pub alone : (f g : A → ℕ) (xs : List A) (i : ℕ) (v : A) → get_elem? xs i ≡ maybe.some v → total_by f xs ≡ f v
+      → ((j : ℕ) (u : A) → get_elem? xs j ≡ maybe.some u → f u ≡ 0 → g u ≡ 0) → total_by g xs ≡ g v
   alone f g [] i v e all h = absurd (maybe.some-ne-none v (sym e))
   alone f g (x ∷ xs) zero v e all h =
       let f_same : f x ≡ f v = ap f (maybe.some-injective x v e) in

@@ -41,17 +41,17 @@ IsAsTold words e = 0 < e.after → slice_index words e.column ≡ e.after
 abbrev pub Agrees : List ℕ → List Entry → Type 0
 Agrees words told = All (IsAsTold words) told
 
-abbrev pub total : {A : Type 0} → (A → ℕ) → List A → ℕ
-total f [] = 0
-total f (x ∷ xs) = f x + total f xs
+abbrev pub total_by : {A : Type 0} → (A → ℕ) → List A → ℕ
+total_by f [] = 0
+total_by f (x ∷ xs) = f x + total_by f xs
 
 -- of a pass in 2 ^ d parts: how many these shares have, of which one that was halved e times has 2 ^ (d - e)
 abbrev pub parts : ℕ → List ℕ → ℕ
-parts d shares = total (λ e. 2 ^ (d - e)) shares
+parts d shares = total_by (λ e. 2 ^ (d - e)) shares
 
 -- how often they were halved, all together
 abbrev pub halvings : List ℕ → ℕ
-halvings shares = total (λ e. e) shares
+halvings shares = total_by (λ e. e) shares
 
 -- together the shares are the pass, however finely it is cut
 abbrev pub AreWhole : List ℕ → Type 0
@@ -66,19 +66,19 @@ abbrev pub given_half : List ℕ → List ℕ
 given_half [] = []
 given_half (e ∷ shares) = (e + 1) ∷ []
 
-abbrev pub unit : ℕ → ℕ
-unit zero = 0
-unit (suc n) = 1
+abbrev pub rows_named : ℕ → ℕ
+rows_named zero = 0
+rows_named (suc n) = 1
 
 -- 1 for a step that gave the column its row
 abbrev pub won : ℕ → Entry → ℕ
-won column e = cond (e.column == column) (cond (e.before == 0) (unit e.after) 0) 0
+won column e = cond (e.column == column) (cond (e.before == 0) (rows_named e.after) 0) 0
 
 abbrev pub wins : ℕ → View → ℕ
-wins column v = total (won column) v.told
+wins column v = total_by (won column) v.told
 
 abbrev pub was_held : List (Option ℕ) → ℕ → ℕ
-was_held held column = unit (option_word (slice_index_or held column None))
+was_held held column = rows_named (option_word (slice_index_or held column None))
 
 pub record Kept {S : Type 0} (leads : List ℕ) (held : List (Option ℕ)) (s : State S View) : Type 0 where
   pub wide : length s.words ≡ length held
@@ -86,24 +86,24 @@ pub record Kept {S : Type 0} (leads : List ℕ) (held : List (Option ℕ)) (s : 
   pub stays : (column row : ℕ) → slice_get held column ≡ Some (Some row) → slice_index s.words column ≡ row + 1
   pub each_seat : (j : ℕ) (v : View) → get_elem? s.views j ≡ maybe.some v → Agrees s.words v.told
   -- a column that has a row had it at the start, or one seat was told once that it gave it
-  pub once : (column : ℕ) → column < length s.words → total (wins column) s.views + was_held held column ≡ unit (slice_index s.words column)
+  pub once : (column : ℕ) → column < length s.words → total_by (wins column) s.views + was_held held column ≡ rows_named (slice_index s.words column)
   -- the shares of all seats are the pass
-  pub shared : (d : ℕ) → total (λ v. halvings v.shares) s.views ≤ d → total (λ v. parts d v.shares) s.views ≡ 2 ^ d
+  pub shared : (d : ℕ) → total_by (λ v. halvings v.shares) s.views ≤ d → total_by (λ v. parts d v.shares) s.views ≡ 2 ^ d
   -- a seat without a share gave no column a row, and gives none
   pub spent : (j : ℕ) (v : View) → get_elem? s.views j ≡ maybe.some v → v.shares ≡ [] → (v.leads ≡ []) × ((column : ℕ) → wins column v ≡ 0)
 
-abbrev Sat : Type 0 → Type 0
-Sat S = Me S View
+abbrev PassSeat : Type 0 → Type 0
+PassSeat S = Me S View
 
 module _ {S : Type 0} where
-  abbrev pub Tells : Sat S → ℕ → ℕ → ℕ → Sat S → Type 0
+  abbrev pub Tells : PassSeat S → ℕ → ℕ → ℕ → PassSeat S → Type 0
   Tells m column before after m' = (m' ≡ (view m.0.leads (m.0.told ++ entry column before after ∷ []) m.0.shares, m.1)) × NamesRowOf m.0.leads column after
 
-  abbrev pub claimed : Step S → Sat S → ℕ → Sat S → Type 0
+  abbrev pub claimed : Step S → PassSeat S → ℕ → PassSeat S → Type 0
   claimed st m r m' = Tells m st.word r (either (r == 0) st.second r) m'
 
-  abbrev pub looked : Step S → Sat S → ℕ → Sat S → Type 0
-  looked st m r m' = Tells m st.word r r m'
+  abbrev pub looked_up : Step S → PassSeat S → ℕ → PassSeat S → Type 0
+  looked_up st m r m' = Tells m st.word r r m'
 
   abbrev pub told : Seat S View → List Entry
   told seat = seat.me.0.told
@@ -121,9 +121,9 @@ abbrev pub found_by : Claim → ℕ
 found_by Won = 0
 found_by (Lost k) = k + 1
 
-abbrev pub word_of : ℕ → Claim → ℕ
-word_of row Won = row + 1
-word_of row (Lost k) = k + 1
+abbrev pub claim_word : ℕ → Claim → ℕ
+claim_word row Won = row + 1
+claim_word row (Lost k) = k + 1
 
 -- the words at the end: as many as columns, each naming a row whose lead is its column; the old rows stayed, and what was told is so
 pub record Tallies (leads : List ℕ) (held : List (Option ℕ)) (told : List Entry) (rows : List (Option ℕ)) : Type 0 where

@@ -1,6 +1,6 @@
 // Claims.
 ghost use Rattle.std.specs.Prelude.{◌≡◌, ℕ, ◌<◌, [], ◌∷◌, ◌++◌, length, slice_index, IfOk};
-ghost use Rattle.pivot_table.specs.Law.{AreHeldOrWon, IsSeatOf, LeadsFit, NamesRowOf, Tallies, entry, found_by, option_word, told, word_of};
+ghost use Rattle.pivot_table.specs.Law.{AreHeldOrWon, IsSeatOf, LeadsFit, NamesRowOf, Tallies, claim_word, entry, found_by, option_word, told};
 ghost use Rattle.pivot_table.specs.Law.{AreWhole, given_half, kept_half, shares};
 
 use crate::law::{ClaimSeat, Law, Rows, View};
@@ -107,8 +107,8 @@ impl Claims {
         requires seat { IsSeatOf self.now.table.shared.table_id self.now.rows.leads.items seat.old }
         requires row { row < length self.now.rows.leads.items }
         ensures seat { IsSeatOf self.now.table.shared.table_id self.now.rows.leads.items seat.new }
-        ensures told { told seat.new ≡ told seat.old ++ entry (slice_index self.now.rows.leads.items row) (found_by result) (word_of row result) ∷ [] }
-        ensures names { NamesRowOf self.now.rows.leads.items (slice_index self.now.rows.leads.items row) (word_of row result) }
+        ensures told { told seat.new ≡ told seat.old ++ entry (slice_index self.now.rows.leads.items row) (found_by result) (claim_word row result) ∷ [] }
+        ensures names { NamesRowOf self.now.rows.leads.items (slice_index self.now.rows.leads.items row) (claim_word row result) }
         ensures shares { shares seat.new ≡ shares seat.old }
     {
         let column = lead_of(self.rows.leads.as_slice(), row);

@@ -1,6 +1,6 @@
 //! What each step on the words tells.
 ghost use Rattle.std.specs.Prelude.{[], ◌++◌};
-ghost use Rattle.pivot_table.specs.Law.{claimed, given_half, kept_half, looked, view};
+ghost use Rattle.pivot_table.specs.Law.{claimed, given_half, kept_half, looked_up, view};
 
 use crate::View;
 use atomic_table::{Join, Play, Split};
@@ -14,7 +14,7 @@ impl<S> Play<S, View> for Claimed {
 pub(crate) struct Looked;
 
 impl<S> Play<S, View> for Looked {
-    ghost then = { looked };
+    ghost then = { looked_up };
 }
 
 pub(crate) struct Cut;

@@ -23,8 +23,8 @@ use Rattle.basis_core.specs.declared.taken.Taken.{Taken}
 use Rattle.basis_core.specs.declared.taken.Taken.TheVariants.{Job as TookJob, Empty, Stopped}
 use Rattle.basis_core.specs.Answers.{AnswersTake, IsRunOf, IsTaken, PutsOutcome, pairs_given}
 use Rattle.basis_core.specs.Jobs.{JobShown, pairs_of}
-use Rattle.basis_core.specs.Members.{Shared, MemberShown, members_of, rows_of, setting_of}
-use Rattle.basis_core.specs.Outcomes.{OutcomeShown, products_of}
+use Rattle.basis_core.specs.Members.{Shared, MemberShown, members_of, reduct_rows_of, setting_of}
+use Rattle.basis_core.specs.Outcomes.{OutcomeShown, indexed_products_of}
 use Rattle.basis_core.specs.Shown.{Shown}
 use Rattle.basis_core.specs.Stops as stops
 use Rattle.basis_core.specs.Stops.{reason_of, stop_of}
@@ -169,7 +169,7 @@ closed_after_end t u ending one (none, empty) same h =
 abbrev PutsBy : (s : Shown) (o : OutcomeShown) (made : List MemberShown) (t : Shown) → ℕ → Type 0
 PutsBy s o made t w =
     let n : ℕ = variables_of s in
-    Puts (run_of n s) (state_of n s) w (length o.job.members) (rows_of n o.rows) (products_of n o.products) (members_of n made) (state_of n t)
+    Puts (run_of n s) (state_of n s) w (length o.job.members) (reduct_rows_of n o.rows) (indexed_products_of n o.products) (members_of n made) (state_of n t)
 
 pub free_after_put :
     (s t : Shown) (o : OutcomeShown) (made : List MemberShown) → IsOut s o.job → IsSameRun s t → PutsOutcome (variables_of s) s o made t

@@ -27,8 +27,8 @@ pub record IsKeptByPlain (e : PlainShown) : Type 0 where
   pub left : KeptLeaves e.state e.trail
 
 -- the engine with one run more
-abbrev pub with_run : PlainShown → PlainShown
-with_run e = record e { runs = next_count e.runs }
+abbrev pub plain_with_run : PlainShown → PlainShown
+plain_with_run e = record e { runs = next_count e.runs }
 
 -- one more run that stopped is counted, up to 2 ^ 64 - 1; budget, update and the count of runs are the same
 pub record CountsPlainStop (old new : PlainShown) : Type 0 where

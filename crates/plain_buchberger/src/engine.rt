@@ -6,7 +6,7 @@ ghost use Rattle.term_lists.specs.Vectors.{AreVectorsOver, HasPositions};
 ghost use Rattle.basis_core.specs.Members.{Shared};
 ghost use Rattle.groebner_iface.specs.Runs.{IsReducedBasisOf, StoppedRun};
 ghost use Rattle.risen_counts.specs.Counts.{next_count};
-ghost use Rattle.plain_buchberger.specs.Engines.{CountsPlainStop, PlainStops, IsKeptByPlain, with_run};
+ghost use Rattle.plain_buchberger.specs.Engines.{CountsPlainStop, PlainStops, IsKeptByPlain, plain_with_run};
 ghost use Rattle.plain_buchberger.specs.Runs.{KeptLeaves, StopLeaves};
 ghost use Rattle.run_endings.specs.Stops.{IsStop, RunStops, shared_on, stopped_run};
 
@@ -146,8 +146,8 @@ impl PlainEngine {
         requires vectors { AreVectorsOver ring.now (ring_comparison ring.now) list.now }
         requires positions { Each (HasPositions rank) list.now }
         ensures basis { IfOk result (IsReducedBasisOf ring.now rank list.now) }
-        ensures same { OnOk result (self.new ≡ with_run self.old) }
-        ensures stop { IfErr result (PlainStops (with_run self.old) self.new (shared_on ring.now rank list.now)) }
+        ensures same { OnOk result (self.new ≡ plain_with_run self.old) }
+        ensures stop { IfErr result (PlainStops (plain_with_run self.old) self.new (shared_on ring.now rank list.now)) }
         ensures run { self.new.runs ≡ next_count self.old.runs }
     {
         self.count_run();
@@ -159,7 +159,7 @@ impl PlainEngine {
 
     // Counts a run.
     fn count_run(&mut self)
-        ensures { self.new ≡ with_run self.old }
+        ensures { self.new ≡ plain_with_run self.old }
     {
         self.runs = self.runs.saturating_add(1);
     }

@@ -8,11 +8,11 @@ use Rattle.poly_grammar.specs.declared.reader.Sum.{Sum}
 use Rattle.poly_grammar.specs.declared.reader.Sum.TheVariants as sums
 use Rattle.poly_grammar.specs.declared.reader.Pending.{Pending}
 use Rattle.poly_grammar.specs.Lexemes.{Lexeme, caret, closed, minus, number, plus, star}
-use Rattle.poly_grammar.specs.Trees.{Atom, Factor, Factors, Poly, Term, Terms, alone, atom_spelling, bare, factor_spelling, factors_spelling, group, last, letter, minus_term, negative, numeral, plain, plus_term, poly, positive, power, spelling, term, term_spelling, terms_spelling, times}
+use Rattle.poly_grammar.specs.Trees.{Atom, Factor, Factors, Poly, TermTree, Terms, alone, atom_spelling, bare, factor_spelling, factors_spelling, group, last, letter, minus_term, negative, numeral, plain, plus_term, poly, positive, power, spelling, term, term_spelling, terms_spelling, times}
 use Rattle.poly_grammar.specs.declared.step.PolyStep.{PolyStep}
 use Rattle.poly_grammar.specs.declared.step.PolyStep.TheVariants.{Power}
 use Rattle.poly_grammar.specs.Steps.{steps, terms_steps, term_steps, factors_steps, factor_steps, atom_steps}
-use Rattle.poly_grammar.specs.Reading.{ParserState, outcome, after_product, after_sum, begun}
+use Rattle.poly_grammar.specs.Reading.{ParserState, outcome, after_product, after_sum, start_state}
 
 -- no * and no ^ stands at the front
 abbrev pub Ends : List Lexeme → Type 0
@@ -75,7 +75,7 @@ sum_ended sum outer done (_ ∷ xs) e = refl
 regroup : (a b xs : List Lexeme) (s : ParserState) → outcome ((a ++ b) ++ xs) s ≡ outcome (a ++ (b ++ xs)) s
 regroup a b xs s = ap (λ l. outcome l s) (append_assoc a b xs)
 
-bare_is_operand : (t : Term) (xs : List Lexeme) (outer : List Pending) (done : List PolyStep) → outcome (term_spelling t ++ xs) (at Start sums.Nothing false outer done) ≡ outcome (term_spelling t ++ xs) (at Operand sums.Nothing false outer done)
+bare_is_operand : (t : TermTree) (xs : List Lexeme) (outer : List Pending) (done : List PolyStep) → outcome (term_spelling t ++ xs) (at Start sums.Nothing false outer done) ≡ outcome (term_spelling t ++ xs) (at Operand sums.Nothing false outer done)
 bare_is_operand (term (plain (numeral d)) fs) xs outer done = refl
 bare_is_operand (term (plain (letter d)) fs) xs outer done = refl
 bare_is_operand (term (plain (group d)) fs) xs outer done = refl
@@ -97,7 +97,7 @@ mutual
   terms_are_read (minus_term t ts) outer done xs e = regroup (term_spelling t) (terms_spelling ts) xs _ ∙ term_is_read t sums.Subtraction outer ((done ++ []) ++ []) (terms_spelling ts ++ xs) (ends_terms ts xs e) ∙ terms_are_read ts outer _ xs e ∙ ap (λ d. outcome xs (at phases.Factor sums.Nothing false outer d)) (simp (append_assoc, append-nil))
 
   -- a term behind its sign
-  term_is_read : (t : Term) (sum : Sum) (outer : List Pending) (done : List PolyStep) (xs : List Lexeme) → Ends xs
+  term_is_read : (t : TermTree) (sum : Sum) (outer : List Pending) (done : List PolyStep) (xs : List Lexeme) → Ends xs
       → outcome (term_spelling t ++ xs) (at Operand sum false outer done) ≡ outcome xs (at phases.Factor sums.Nothing false outer ((done ++ term_steps t) ++ after_sum sum))
   term_is_read (term f fs) sum outer done xs e = regroup (factor_spelling f) (factors_spelling fs) xs _ ∙ factor_is_read f sum false outer done (factors_spelling fs ++ xs) (no_power_factors fs xs e) ∙ factors_are_read fs sum false outer _ xs e ∙ sum_ended sum outer _ xs e ∙ ap (λ d. outcome xs (at phases.Factor sums.Nothing false outer d)) (simp (append_assoc, append-nil))
 
@@ -118,5 +118,5 @@ mutual
   atom_is_read (group p) sum product outer done xs = regroup (spelling p) (closed ∷ []) xs _ ∙ poly_is_read p (record { sum = sum; product = product } ∷ outer) done (closed ∷ xs) tt ∙ ap (λ d. outcome xs (at Base sum product outer d)) (simp append-nil)
 
 -- what is spelled so is read
-pub spelling_is_read : (p : Poly) → outcome (spelling p) begun ≡ Some (steps p)
-spelling_is_read p = ap (λ xs. outcome xs begun) (sym (append-nil (spelling p))) ∙ poly_is_read p [] [] [] tt ∙ ap Some (simp append-nil)
+pub spelling_is_read : (p : Poly) → outcome (spelling p) start_state ≡ Some (steps p)
+spelling_is_read p = ap (λ xs. outcome xs start_state) (sym (append-nil (spelling p))) ∙ poly_is_read p [] [] [] tt ∙ ap Some (simp append-nil)

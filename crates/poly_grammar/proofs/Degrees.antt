@@ -7,7 +7,7 @@ use Rattle.poly_grammar.specs.declared.step.PolyStep.{PolyStep}
 use Rattle.poly_grammar.specs.Algebras.{◌>>=◌, worth_of_steps, worth, terms_worth, term_worth, factors_worth, factor_worth, atom_worth, signed}
 use Rattle.poly_grammar.specs.Degrees.{bounded, degrees, formal_degree}
 use Rattle.poly_grammar.specs.Steps.{steps}
-use Rattle.poly_grammar.specs.Trees.{Lead, bare, positive, negative, Poly, poly, Terms, last, plus_term, minus_term, Term, term, Factors, alone, times, Factor, plain, power, Atom, numeral, letter, group}
+use Rattle.poly_grammar.specs.Trees.{Lead, bare, positive, negative, Poly, poly, Terms, last, plus_term, minus_term, TermTree, term, Factors, alone, times, Factor, plain, power, Atom, numeral, letter, group}
 use Rattle.poly_grammar.proofs.Worths.{worth_is_left}
 
 pub as_degree : (weight value : Token → ℕ) (xs : List PolyStep) (r : Result (Option ℕ) AllocError) → IfOk r (λ found. found ≡ worth_of_steps (degrees weight value) xs) → (p : Poly) → xs ≡ steps p → IfOk r (λ found. found ≡ formal_degree weight value p)
@@ -47,7 +47,7 @@ mutual
   terms_small weight value d h (plus_term t ts) = next_small (term_worth (degrees weight value) t) _ (term_small weight value t) (λ e k. terms_small weight value (max d e) (greatest_small d e h k) ts)
   terms_small weight value d h (minus_term t ts) = next_small (term_worth (degrees weight value) t) _ (term_small weight value t) (λ e k. terms_small weight value (max d e) (greatest_small d e h k) ts)
 
-  term_small : (weight value : Token → ℕ) (t : Term) → Small (term_worth (degrees weight value) t)
+  term_small : (weight value : Token → ℕ) (t : TermTree) → Small (term_worth (degrees weight value) t)
   term_small weight value (term f fs) = next_small (factor_worth (degrees weight value) f) _ (factor_small weight value f) (λ d h. factors_small weight value d h fs)
 
   factors_small : (weight value : Token → ℕ) (d : ℕ) → d ≤ 1000 → (fs : Factors) → Small (factors_worth (degrees weight value) d fs)

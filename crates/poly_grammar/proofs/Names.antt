@@ -5,7 +5,7 @@ use Rattle.poly_grammar.specs.declared.step.PolyStep.{PolyStep}
 use Rattle.poly_grammar.specs.declared.step.PolyStep.TheVariants as acts
 use Rattle.poly_grammar.specs.Lexemes.{Lexeme, name, caret, number, closed, names_in}
 use Rattle.poly_grammar.specs.Steps.{steps, lead_steps, terms_steps, term_steps, factors_steps, factor_steps, atom_steps, names_of_steps}
-use Rattle.poly_grammar.specs.Trees.{Lead, bare, positive, negative, Poly, poly, Terms, last, plus_term, minus_term, Term, term, Factors, alone, times, Factor, plain, power, Atom, numeral, letter, group, lead, spelling, terms_spelling, term_spelling, factors_spelling, factor_spelling, atom_spelling}
+use Rattle.poly_grammar.specs.Trees.{Lead, bare, positive, negative, Poly, poly, Terms, last, plus_term, minus_term, TermTree, term, Factors, alone, times, Factor, plain, power, Atom, numeral, letter, group, lead, spelling, terms_spelling, term_spelling, factors_spelling, factor_spelling, atom_spelling}
 
 in_both : (a b : List Lexeme) → names_in (a ++ b) ≡ names_in a ++ names_in b
 in_both [] b = refl
@@ -42,7 +42,7 @@ mutual
   terms_names (plus_term t ts) = joined (term_steps t) (acts.Add ∷ terms_steps ts) (term_spelling t) (terms_spelling ts) (term_names t) (terms_names ts)
   terms_names (minus_term t ts) = joined (term_steps t) (acts.Subtract ∷ terms_steps ts) (term_spelling t) (terms_spelling ts) (term_names t) (terms_names ts)
 
-  term_names : (t : Term) → names_of_steps (term_steps t) ≡ names_in (term_spelling t)
+  term_names : (t : TermTree) → names_of_steps (term_steps t) ≡ names_in (term_spelling t)
   term_names (term f fs) = joined (factor_steps f) (factors_steps fs) (factor_spelling f) (factors_spelling fs) (factor_names f) (factors_names fs)
 
   factors_names : (fs : Factors) → names_of_steps (factors_steps fs) ≡ names_in (factors_spelling fs)

@@ -4,7 +4,7 @@ use Rattle.std.proofs.lemmas.List.{append-nil}
 use Rattle.std.proofs.lemmas.Bool.{ltb-true, lt-ltb}
 use Rattle.poly_grammar.specs.Lexemes.{Lexeme, plus, minus, star, caret, number, opened, closed}
 use Rattle.poly_grammar.specs.Reading.{nests}
-use Rattle.poly_grammar.specs.Trees.{Lead, bare, positive, negative, Poly, poly, Terms, last, plus_term, minus_term, Term, term, Factors, alone, times, Factor, plain, power, Atom, numeral, letter, group, lead, spelling, terms_spelling, term_spelling, factors_spelling, factor_spelling, atom_spelling, depth, terms_depth, term_depth, factors_depth, factor_depth, atom_depth}
+use Rattle.poly_grammar.specs.Trees.{Lead, bare, positive, negative, Poly, poly, Terms, last, plus_term, minus_term, TermTree, term, Factors, alone, times, Factor, plain, power, Atom, numeral, letter, group, lead, spelling, terms_spelling, term_spelling, factors_spelling, factor_spelling, atom_spelling, depth, terms_depth, term_depth, factors_depth, factor_depth, atom_depth}
 
 -- tokens that nest k deep and close what they open
 record NestsDeep (s : List Lexeme) (k : ℕ) : Type 0 where
@@ -69,7 +69,7 @@ mutual
   terms_nest (plus_term t ts) = behind plus _ _ (λ d xs. refl) (both _ _ _ _ (term_nests t) (terms_nest ts))
   terms_nest (minus_term t ts) = behind minus _ _ (λ d xs. refl) (both _ _ _ _ (term_nests t) (terms_nest ts))
 
-  term_nests : (t : Term) → NestsDeep (term_spelling t) (term_depth t)
+  term_nests : (t : TermTree) → NestsDeep (term_spelling t) (term_depth t)
   term_nests (term f fs) = both _ _ _ _ (factor_nests f) (factors_nest fs)
 
   factors_nest : (fs : Factors) → NestsDeep (factors_spelling fs) (factors_depth fs)

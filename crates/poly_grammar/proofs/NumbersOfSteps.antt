@@ -5,7 +5,7 @@ use Rattle.poly_grammar.specs.declared.step.PolyStep.{PolyStep}
 use Rattle.poly_grammar.specs.declared.step.PolyStep.TheVariants as acts
 use Rattle.poly_grammar.specs.Lexemes.{Lexeme, caret, number, closed, numbers_in}
 use Rattle.poly_grammar.specs.Steps.{steps, lead_steps, terms_steps, term_steps, factors_steps, factor_steps, atom_steps, numbers_of_steps}
-use Rattle.poly_grammar.specs.Trees.{Lead, bare, positive, negative, Poly, poly, Terms, last, plus_term, minus_term, Term, term, Factors, alone, times, Factor, plain, power, Atom, numeral, letter, group, lead, spelling, terms_spelling, term_spelling, factors_spelling, factor_spelling, atom_spelling}
+use Rattle.poly_grammar.specs.Trees.{Lead, bare, positive, negative, Poly, poly, Terms, last, plus_term, minus_term, TermTree, term, Factors, alone, times, Factor, plain, power, Atom, numeral, letter, group, lead, spelling, terms_spelling, term_spelling, factors_spelling, factor_spelling, atom_spelling}
 
 in_both : (a b : List Lexeme) → numbers_in (a ++ b) ≡ numbers_in a ++ numbers_in b
 in_both [] b = refl
@@ -43,7 +43,7 @@ mutual
   terms_numbers (plus_term t ts) = joined (term_steps t) (acts.Add ∷ terms_steps ts) (term_spelling t) (terms_spelling ts) (term_numbers t) (terms_numbers ts)
   terms_numbers (minus_term t ts) = joined (term_steps t) (acts.Subtract ∷ terms_steps ts) (term_spelling t) (terms_spelling ts) (term_numbers t) (terms_numbers ts)
 
-  term_numbers : (t : Term) → numbers_of_steps (term_steps t) ≡ numbers_in (term_spelling t)
+  term_numbers : (t : TermTree) → numbers_of_steps (term_steps t) ≡ numbers_in (term_spelling t)
   term_numbers (term f fs) = joined (factor_steps f) (factors_steps fs) (factor_spelling f) (factors_spelling fs) (factor_numbers f) (factors_numbers fs)
 
   factors_numbers : (fs : Factors) → numbers_of_steps (factors_steps fs) ≡ numbers_in (factors_spelling fs)

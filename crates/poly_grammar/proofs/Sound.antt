@@ -8,7 +8,7 @@ use Rattle.poly_grammar.specs.Lexemes.{Lexeme, caret, closed, minus, name, numbe
 use Rattle.poly_grammar.specs.Trees.{Atom, Factor, Factors, Lead, Poly, Terms, alone, atom_spelling, bare, factor_spelling, factors_spelling, group, last, lead, letter, minus_term, negative, numeral, plain, plus_term, poly, positive, power, spelling, term, term_spelling, terms_spelling, times}
 use Rattle.script_tokens.specs.declared.token.Token.{Token}
 use Rattle.poly_grammar.specs.declared.step.PolyStep.{PolyStep}
-use Rattle.poly_grammar.specs.Reading.{ParserState, outcome, begun}
+use Rattle.poly_grammar.specs.Reading.{ParserState, outcome, start_state}
 
 abbrev exponent_spelling : Option Token → List Lexeme
 exponent_spelling None = []
@@ -170,7 +170,7 @@ is_spelled (closed ∷ xs) phases.Base pending (o ∷ outer) done found h = no_p
 is_spelled (_ ∷ xs) phases.Base pending outer done found h = refused h
 
 -- what is read is the spelling of a tree
-pub read_is_spelled : (xs : List Lexeme) (found : List PolyStep) → outcome xs begun ≡ Some found → (p : Poly) × (xs ≡ spelling p)
+pub read_is_spelled : (xs : List Lexeme) (found : List PolyStep) → outcome xs start_state ≡ Some found → (p : Poly) × (xs ≡ spelling p)
 read_is_spelled xs found h =
     let r = is_spelled xs phases.Start _ [] [] found h in
     (r.p, r.is ∙ ap (λ l. spelling r.p ++ l) r.rest ∙ append-nil (spelling r.p))

@@ -2,7 +2,7 @@
 use Rattle.std.proofs.Common.{◌≡◌, List, [], ◌∷◌, ◌++◌, refl, sym, subst, ◌∙◌, append_assoc}
 use Rattle.std.proofs.lemmas.List.{append-nil}
 use Rattle.poly_grammar.specs.Lexemes.{Lexeme, caret, closed, minus, number, plus, star}
-use Rattle.poly_grammar.specs.Trees.{Atom, Factor, Factors, Lead, Poly, Term, Terms, alone, atom_spelling, bare, factor_spelling, factors_spelling, group, last, lead, letter, minus_term, negative, numeral, plain, plus_term, poly, positive, power, spelling, term, term_spelling, terms_spelling, times}
+use Rattle.poly_grammar.specs.Trees.{Atom, Factor, Factors, Lead, Poly, TermTree, Terms, alone, atom_spelling, bare, factor_spelling, factors_spelling, group, last, lead, letter, minus_term, negative, numeral, plain, plus_term, poly, positive, power, spelling, term, term_spelling, terms_spelling, times}
 use Rattle.poly_grammar.proofs.Complete.{Ends, NoPower, no_power_factors}
 
 -- no sign that goes on with a POLY stands at the front
@@ -32,7 +32,7 @@ moved a b a' b' x y e = sym (append_assoc a b x) ∙ e ∙ append_assoc a' b' y
 tail : {a b : Lexeme} {x y : List Lexeme} → a ∷ x ≡ b ∷ y → x ≡ y
 tail e = cc
 
-no_sign : (t : Term) (xs ys : List Lexeme) (sign : Lead) → term_spelling t ++ xs ≡ lead sign ++ ys → (sign ≡ bare → ⊥) → ⊥
+no_sign : (t : TermTree) (xs ys : List Lexeme) (sign : Lead) → term_spelling t ++ xs ≡ lead sign ++ ys → (sign ≡ bare → ⊥) → ⊥
 no_sign (term (plain (numeral d)) fs) xs ys positive e ne = cc
 no_sign (term (plain (letter d)) fs) xs ys positive e ne = cc
 no_sign (term (plain (group d)) fs) xs ys positive e ne = cc
@@ -47,7 +47,7 @@ no_sign (term (power (letter d) x) fs) xs ys negative e ne = cc
 no_sign (term (power (group d) x) fs) xs ys negative e ne = cc
 no_sign t xs ys bare e ne = ne refl
 
-no_lead : (t : Term) (xs ys : List Lexeme) (sign : Lead) → lead sign ++ ys ≡ term_spelling t ++ xs → (sign ≡ bare → ⊥) → ⊥
+no_lead : (t : TermTree) (xs ys : List Lexeme) (sign : Lead) → lead sign ++ ys ≡ term_spelling t ++ xs → (sign ≡ bare → ⊥) → ⊥
 no_lead t xs ys sign e ne = no_sign t xs ys sign (sym e) ne
 
 mutual
@@ -83,7 +83,7 @@ mutual
   one_terms (plus_term t ts) (minus_term u us) x y sx sy e = absurd cc
   one_terms (minus_term t ts) (plus_term u us) x y sx sy e = absurd cc
 
-  one_term : (t u : Term) (x y : List Lexeme) → Ends x → Ends y → term_spelling t ++ x ≡ term_spelling u ++ y → (t ≡ u) × (x ≡ y)
+  one_term : (t u : TermTree) (x y : List Lexeme) → Ends x → Ends y → term_spelling t ++ x ≡ term_spelling u ++ y → (t ≡ u) × (x ≡ y)
   one_term (term f fs) (term g gs) x y sx sy e =
       let r = one_factor f g (factors_spelling fs ++ x) (factors_spelling gs ++ y) (no_power_factors fs x sx) (no_power_factors gs y sy) (moved (factor_spelling f) (factors_spelling fs) (factor_spelling g) (factors_spelling gs) x y e) in
       let s = one_factors fs gs x y sx sy r.1 in (cc (r.0, s.0), s.1)

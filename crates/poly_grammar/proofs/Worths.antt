@@ -3,9 +3,9 @@ use Rattle.std.proofs.Common.{◌≡◌, List, [], ◌∷◌, ◌++◌, Option, 
 use Rattle.std.proofs.lemmas.List.{append-nil}
 use Rattle.poly_grammar.specs.declared.step.PolyStep.{PolyStep}
 use Rattle.poly_grammar.specs.declared.step.PolyStep.TheVariants.{Power, Multiply, Add, Subtract}
-use Rattle.poly_grammar.specs.Trees.{Atom, Factor, Factors, Lead, Poly, Term, Terms, alone, bare, group, last, letter, minus_term, negative, numeral, plain, plus_term, poly, positive, power, term, times}
+use Rattle.poly_grammar.specs.Trees.{Atom, Factor, Factors, Lead, Poly, TermTree, Terms, alone, bare, group, last, letter, minus_term, negative, numeral, plain, plus_term, poly, positive, power, term, times}
 use Rattle.poly_grammar.specs.Steps.{steps, lead_steps, terms_steps, term_steps, factors_steps, factor_steps, atom_steps}
-use Rattle.poly_grammar.specs.Algebras.{◌>>=◌, Algebra, signed, worth, terms_worth, term_worth, factors_worth, factor_worth, atom_worth, push, worths, top, worth_of_steps}
+use Rattle.poly_grammar.specs.Algebras.{◌>>=◌, Algebra, signed, worth, terms_worth, term_worth, factors_worth, factor_worth, atom_worth, push, worths, stack_top, worth_of_steps}
 
 bind_bind : {A B C : Type 0} (o : Option A) (f : A → Option B) (g : B → Option C) → ((o >>= f) >>= g) ≡ (o >>= λ a. f a >>= g)
 bind_bind None f g = refl
@@ -47,7 +47,7 @@ mutual
       regroup g (term_steps t) (Subtract ∷ terms_steps ts) xs (a ∷ stack) ∙ term_runs g t (Subtract ∷ (terms_steps ts ++ xs)) (a ∷ stack)
       ∙ chain (term_worth g t) _ _ _ (λ b. pushed stack (g.difference a b) (worths g (terms_steps ts ++ xs)) ∙ chain (g.difference a b) _ _ _ (λ c. terms_run g ts c xs stack))
 
-  term_runs : {A : Type 0} (g : Algebra A) (t : Term) (xs : List PolyStep) (stack : List A) → worths g (term_steps t ++ xs) stack ≡ (term_worth g t >>= λ a. worths g xs (a ∷ stack))
+  term_runs : {A : Type 0} (g : Algebra A) (t : TermTree) (xs : List PolyStep) (stack : List A) → worths g (term_steps t ++ xs) stack ≡ (term_worth g t >>= λ a. worths g xs (a ∷ stack))
   term_runs g (term f fs) xs stack =
       regroup g (factor_steps f) (factors_steps fs) xs stack ∙ factor_runs g f (factors_steps fs ++ xs) stack ∙ chain (factor_worth g f) _ _ _ (λ a. factors_run g fs a xs stack)
 
@@ -67,11 +67,11 @@ mutual
   atom_runs g (letter token) xs stack = pushed stack (g.name token) (worths g xs)
   atom_runs g (group p) xs stack = poly_runs g p xs stack
 
-only_top : {A : Type 0} (o : Option A) → (o >>= λ a. top (a ∷ [])) ≡ o
+only_top : {A : Type 0} (o : Option A) → (o >>= λ a. stack_top (a ∷ [])) ≡ o
 only_top None = refl
 only_top (Some a) = refl
 
 -- the steps of a tree leave its worth
 pub worth_is_left : {A : Type 0} (g : Algebra A) (p : Poly) → worth_of_steps g (steps p) ≡ worth g p
 worth_is_left g p =
-    ap (worth_of_steps g) (sym (append-nil (steps p))) ∙ ap (λ o. o >>= top) (poly_runs g p [] []) ∙ bind_bind (worth g p) (λ a. Some (a ∷ [])) top ∙ only_top (worth g p)
+    ap (worth_of_steps g) (sym (append-nil (steps p))) ∙ ap (λ o. o >>= stack_top) (poly_runs g p [] []) ∙ bind_bind (worth g p) (λ a. Some (a ∷ [])) stack_top ∙ only_top (worth g p)

@@ -3,7 +3,7 @@ use Rattle.std.specs.Prelude.{List, [], ◌∷◌, Option, Some, None, option_an
 use Rattle.script_tokens.specs.declared.token.Token.{Token}
 use Rattle.poly_grammar.specs.declared.step.PolyStep.{PolyStep}
 use Rattle.poly_grammar.specs.declared.step.PolyStep.TheVariants.{Number, Name, Power, Multiply, Add, Subtract, Negate}
-use Rattle.poly_grammar.specs.Trees.{Atom, Factor, Factors, Lead, Poly, Term, Terms, alone, bare, group, last, letter, minus_term, negative, numeral, plain, plus_term, poly, positive, power, term, times}
+use Rattle.poly_grammar.specs.Trees.{Atom, Factor, Factors, Lead, Poly, TermTree, Terms, alone, bare, group, last, letter, minus_term, negative, numeral, plain, plus_term, poly, positive, power, term, times}
 
 -- an answer, and what is made of it
 infixl 10 ◌>>=◌
@@ -36,7 +36,7 @@ abbrev mutual
   terms_worth g a (plus_term t ts) = term_worth g t >>= λ b. g.sum a b >>= λ c. terms_worth g c ts
   terms_worth g a (minus_term t ts) = term_worth g t >>= λ b. g.difference a b >>= λ c. terms_worth g c ts
 
-  pub term_worth : {A : Type 0} → Algebra A → Term → Option A
+  pub term_worth : {A : Type 0} → Algebra A → TermTree → Option A
   term_worth g (term f fs) = factor_worth g f >>= λ a. factors_worth g a fs
 
   pub factors_worth : {A : Type 0} → Algebra A → A → Factors → Option A
@@ -74,10 +74,10 @@ worths g [] stack = Some stack
 worths g (step ∷ more) stack = worth_step g step stack >>= worths g more
 
 -- what is on top
-abbrev pub top : {A : Type 0} → List A → Option A
-top [] = None
-top (a ∷ stack) = Some a
+abbrev pub stack_top : {A : Type 0} → List A → Option A
+stack_top [] = None
+stack_top (a ∷ stack) = Some a
 
 -- what steps leave on top of an empty stack
 abbrev pub worth_of_steps : {A : Type 0} → Algebra A → List PolyStep → Option A
-worth_of_steps g steps = worths g steps [] >>= top
+worth_of_steps g steps = worths g steps [] >>= stack_top

@@ -6,8 +6,8 @@ use Rattle.poly_grammar.specs.declared.stop.ReadStop.{ReadStop}
 use Rattle.poly_grammar.specs.declared.stop.ReadStop.TheVariants.{Memory, Syntax}
 
 -- what a reader has read
-abbrev pub state_of : Reader → ParserState
-state_of reader = record { phase = reader.phase; pending = reader.pending; outer = reverse reader.outer.items; done = reader.steps.items }
+abbrev pub reader_state : Reader → ParserState
+reader_state reader = record { phase = reader.phase; pending = reader.pending; outer = reverse reader.outer.items; done = reader.steps.items }
 
 -- what a call returned is the answer, seen by view, unless memory ran out
 abbrev pub Gives : {X Y : Type 0} → (X → Y) → Result X ReadStop → Option Y → Type 0
@@ -16,9 +16,9 @@ Gives view (Err Memory) answer = Unit {0}
 Gives view (Err Syntax) answer = answer ≡ None
 
 -- what a step left on a stack, the top last, if it was done
-abbrev pub left_by : Bool → List ℕ → Option (List ℕ)
-left_by true items = Some (reverse items)
-left_by false items = None
+abbrev pub stack_left : Bool → List ℕ → Option (List ℕ)
+stack_left true items = Some (reverse items)
+stack_left false items = None
 
 -- the two degrees on top replaced by the greater
 abbrev pub greater : List ℕ → Option (List ℕ)

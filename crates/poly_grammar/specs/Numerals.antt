@@ -18,8 +18,8 @@ abbrev pub number_of : List ℕ → ℕ
 number_of digits = number_from 0 digits
 
 -- the number that a token's bytes say
-abbrev pub value_of : List ℕ → Token → ℕ
-value_of line token = number_of (text_of line token)
+abbrev pub numeral_value : List ℕ → Token → ℕ
+numeral_value line token = number_of (text_of line token)
 
 -- what a token of the kind says, if it is a number, is below 2^128
 abbrev pub FitsAs : TokenKind → List ℕ → Type 0

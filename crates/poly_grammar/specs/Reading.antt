@@ -92,8 +92,8 @@ abbrev pub outcome : List Lexeme → ParserState → Option (List PolyStep)
 outcome [] s = ended s
 outcome (x ∷ xs) s = option_and_then (outcome xs) (next s x)
 
-abbrev pub begun : ParserState
-begun = record { phase = Start; pending = fresh sums.Nothing; outer = []; done = [] }
+abbrev pub start_state : ParserState
+start_state = record { phase = Start; pending = fresh sums.Nothing; outer = []; done = [] }
 
 -- with so many parentheses open before, no more than 64 are ever open
 abbrev pub nests : ℕ → List Lexeme → Bool

@@ -3,7 +3,7 @@ use Rattle.std.specs.Prelude.{List, [], ◌∷◌, ◌++◌}
 use Rattle.script_tokens.specs.declared.token.Token.{Token}
 use Rattle.poly_grammar.specs.declared.step.PolyStep.{PolyStep}
 use Rattle.poly_grammar.specs.declared.step.PolyStep.TheVariants.{Number, Name, Power, Multiply, Add, Subtract, Negate}
-use Rattle.poly_grammar.specs.Trees.{Atom, Factor, Factors, Lead, Poly, Term, Terms, alone, bare, group, last, letter, minus_term, negative, numeral, plain, plus_term, poly, positive, power, term, times}
+use Rattle.poly_grammar.specs.Trees.{Atom, Factor, Factors, Lead, Poly, TermTree, Terms, alone, bare, group, last, letter, minus_term, negative, numeral, plain, plus_term, poly, positive, power, term, times}
 
 abbrev pub lead_steps : Lead → List PolyStep
 lead_steps bare = []
@@ -19,7 +19,7 @@ abbrev mutual
   terms_steps (plus_term t ts) = term_steps t ++ Add ∷ terms_steps ts
   terms_steps (minus_term t ts) = term_steps t ++ Subtract ∷ terms_steps ts
 
-  pub term_steps : Term → List PolyStep
+  pub term_steps : TermTree → List PolyStep
   term_steps (term f fs) = factor_steps f ++ factors_steps fs
 
   pub factors_steps : Factors → List PolyStep

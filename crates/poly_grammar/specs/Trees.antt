@@ -15,15 +15,15 @@ pub data Lead : Type 0 where
 
 mutual
   pub data Poly : Type 0 where
-    poly : Lead → Term → Terms → Poly
+    poly : Lead → TermTree → Terms → Poly
 
   pub data Terms : Type 0 where
     last : Terms
-    plus_term : Term → Terms → Terms
-    minus_term : Term → Terms → Terms
+    plus_term : TermTree → Terms → Terms
+    minus_term : TermTree → Terms → Terms
 
-  pub data Term : Type 0 where
-    term : Factor → Factors → Term
+  pub data TermTree : Type 0 where
+    term : Factor → Factors → TermTree
 
   pub data Factors : Type 0 where
     alone : Factors
@@ -54,7 +54,7 @@ abbrev mutual
   terms_spelling (plus_term t ts) = plus ∷ (term_spelling t ++ terms_spelling ts)
   terms_spelling (minus_term t ts) = minus ∷ (term_spelling t ++ terms_spelling ts)
 
-  pub term_spelling : Term → List Lexeme
+  pub term_spelling : TermTree → List Lexeme
   term_spelling (term f fs) = factor_spelling f ++ factors_spelling fs
 
   pub factors_spelling : Factors → List Lexeme
@@ -80,7 +80,7 @@ abbrev mutual
   terms_depth (plus_term t ts) = max (term_depth t) (terms_depth ts)
   terms_depth (minus_term t ts) = max (term_depth t) (terms_depth ts)
 
-  pub term_depth : Term → ℕ
+  pub term_depth : TermTree → ℕ
   term_depth (term f fs) = max (factor_depth f) (factors_depth fs)
 
   pub factors_depth : Factors → ℕ

@@ -3,8 +3,8 @@
 ghost use Rattle.std.specs.Prelude.{◌≡◌, ◌*◌, ℕ, List, reverse, IfOk};
 ghost use Rattle.poly_grammar.specs.Algebras.{worth_of_steps, worth_step};
 ghost use Rattle.poly_grammar.specs.Degrees.{bounded, degrees, formal_degree};
-ghost use Rattle.poly_grammar.specs.Numerals.{number_of, text_of, value_of};
-ghost use Rattle.poly_grammar.specs.Machine.{greater, left_by};
+ghost use Rattle.poly_grammar.specs.Numerals.{number_of, numeral_value, text_of};
+ghost use Rattle.poly_grammar.specs.Machine.{greater, stack_left};
 ghost use Rattle.poly_grammar.specs.Steps.{steps as steps_of};
 ghost use Rattle.poly_grammar.specs.Trees.{Poly};
 
@@ -47,7 +47,7 @@ fn raised(degree: u32, exponent: &[u8]) -> Option<u32>
 
 /// Puts the greater of the two degrees on top in their place.
 fn push_greater(stack: &mut Vec<u32>) -> Result<bool, AllocError>
-    ensures { IfOk result (λ done. left_by done stack.new.items ≡ greater (reverse stack.old.items)) }
+    ensures { IfOk result (λ done. stack_left done stack.new.items ≡ greater (reverse stack.old.items)) }
 {
     let (Some(right), Some(left)) = (stack.pop(), stack.pop()) else {
         return Ok(false);
@@ -63,8 +63,8 @@ fn step_degree<N: NameWeights>(
     step: PolyStep,
     stack: &mut Vec<u32>,
 ) -> Result<bool, AllocError>
-    ensures { IfOk result (λ done. left_by done stack.new.items
-        ≡ worth_step (degrees (λ t. N.weight names.now (text_of line.now t)) (value_of line.now)) step (reverse stack.old.items)) }
+    ensures { IfOk result (λ done. stack_left done stack.new.items
+        ≡ worth_step (degrees (λ t. N.weight names.now (text_of line.now t)) (numeral_value line.now)) step (reverse stack.old.items)) }
 {
     match step {
         PolyStep::Number(_) => stack.push(0)?,
@@ -105,7 +105,7 @@ fn degree_left<N: NameWeights>(
     line: &[u8],
     steps: &[PolyStep],
 ) -> Result<Option<u32>, AllocError>
-    ensures { IfOk result (λ found. found ≡ worth_of_steps (degrees (λ t. N.weight names.now (text_of line.now t)) (value_of line.now)) steps.now) }
+    ensures { IfOk result (λ found. found ≡ worth_of_steps (degrees (λ t. N.weight names.now (text_of line.now t)) (numeral_value line.now)) steps.now) }
 {
     let mut stack = Vec::new(alloc);
     for step in steps {
@@ -128,7 +128,7 @@ pub fn formal_degree<N: NameWeights>(
     steps: &[PolyStep],
 ) -> Result<Option<u32>, AllocError>
     ensures { (p : Poly) → steps.now ≡ steps_of p
-        → IfOk result (λ found. found ≡ formal_degree (λ t. N.weight names.now (text_of line.now t)) (value_of line.now) p) }
+        → IfOk result (λ found. found ≡ formal_degree (λ t. N.weight names.now (text_of line.now t)) (numeral_value line.now) p) }
 {
     degree_left(alloc, names, line, steps)
 }

@@ -2,9 +2,9 @@
 
 ghost use Rattle.std.specs.Prelude.{◌≡◌, ◌++◌, ℕ, List, map, OnOk, IfOk, Some};
 ghost use Rattle.poly_grammar.specs.Lexemes.{lexeme};
-ghost use Rattle.poly_grammar.specs.Reading.{nests, after_sum, after_product, next, ended, begun, at_operand, at_start, closing, after_factor, outcome};
+ghost use Rattle.poly_grammar.specs.Reading.{nests, after_sum, after_product, next, ended, start_state, at_operand, at_start, closing, after_factor, outcome};
 ghost use Rattle.poly_grammar.specs.Answers.{IsPolyOf};
-ghost use Rattle.poly_grammar.specs.Machine.{state_of, Gives};
+ghost use Rattle.poly_grammar.specs.Machine.{reader_state, Gives};
 
 use crate::step::PolyStep;
 use crate::stop::ReadStop;
@@ -88,7 +88,7 @@ fn end_term(steps: &mut Vec<PolyStep>, pending: Pending) -> Result<(), AllocErro
 impl Reader {
     /// A reader that has read nothing.
     fn new(alloc: Global) -> Reader
-        ensures { state_of result ≡ begun }
+        ensures { reader_state result ≡ start_state }
     {
         Reader {
             phase: Phase::Start,
@@ -103,7 +103,7 @@ impl Reader {
 
     /// A number, a name or an opening parenthesis.
     fn operand(&mut self, token: Token) -> Result<(), ReadStop>
-        ensures { Gives (λ _. state_of self.new) result (at_operand (state_of self.old) (lexeme token)) }
+        ensures { Gives (λ _. reader_state self.new) result (at_operand (reader_state self.old) (lexeme token)) }
     {
         match token.kind {
             TokenKind::Number => {
@@ -129,7 +129,7 @@ impl Reader {
 
     /// What stands at the start of a polynomial.
     fn start(&mut self, token: Token) -> Result<(), ReadStop>
-        ensures { Gives (λ _. state_of self.new) result (at_start (state_of self.old) (lexeme token)) }
+        ensures { Gives (λ _. reader_state self.new) result (at_start (reader_state self.old) (lexeme token)) }
     {
         match token.kind {
             TokenKind::Plus => {
@@ -150,7 +150,7 @@ impl Reader {
 
     /// Closes the innermost parenthesis.
     fn close(&mut self) -> Result<(), ReadStop>
-        ensures { Gives (λ _. state_of self.new) result (closing (state_of self.old) (state_of self.old).outer) }
+        ensures { Gives (λ _. reader_state self.new) result (closing (reader_state self.old) (reader_state self.old).outer) }
     {
         let Some(pending) = self.outer.pop() else {
             return Err(ReadStop::Syntax);
@@ -163,7 +163,7 @@ impl Reader {
 
     /// What stands behind a factor that takes no more exponent.
     fn after_factor(&mut self, token: Token) -> Result<(), ReadStop>
-        ensures { Gives (λ _. state_of self.new) result (after_factor (state_of self.old) (lexeme token)) }
+        ensures { Gives (λ _. reader_state self.new) result (after_factor (reader_state self.old) (lexeme token)) }
     {
         match token.kind {
             TokenKind::Star => {
@@ -196,7 +196,7 @@ impl Reader {
 
     /// The next token.
     fn take(&mut self, token: Token) -> Result<(), ReadStop>
-        ensures { Gives (λ _. state_of self.new) result (next (state_of self.old) (lexeme token)) }
+        ensures { Gives (λ _. reader_state self.new) result (next (reader_state self.old) (lexeme token)) }
     {
         match (self.phase, token.kind) {
             (Phase::Start, _) => self.start(token),
@@ -217,7 +217,7 @@ impl Reader {
 
     /// The steps, if a polynomial may end here.
     fn finish(self) -> Result<Vec<PolyStep>, ReadStop>
-        ensures { Gives (λ steps. steps.items) result (ended (state_of self)) }
+        ensures { Gives (λ steps. steps.items) result (ended (reader_state self)) }
     {
         let mut steps = self.steps;
         if !self.outer.is_empty() {
@@ -235,7 +235,7 @@ impl Reader {
 
 /// The steps of a polynomial, however deep it nests.
 fn any_depth(alloc: Global, tokens: &[Token]) -> Result<Vec<PolyStep>, ReadStop>
-    ensures { Gives (λ steps. steps.items) result (outcome (map lexeme tokens.now) begun) }
+    ensures { Gives (λ steps. steps.items) result (outcome (map lexeme tokens.now) start_state) }
 {
     let mut reader = Reader::new(alloc);
     for token in tokens {

@@ -13,16 +13,16 @@ use Rattle.formal_sums.specs.FormalSums.{FormalSum, indicator, product, scale}
 use Rattle.monomial_orders.specs.Monomials.{variable}
 use Rattle.poly_grammar.specs.Algebras.{push, worth_step}
 use Rattle.poly_grammar.specs.Degrees.{bounded}
-use Rattle.poly_grammar.specs.Numerals.{text_of, value_of}
+use Rattle.poly_grammar.specs.Numerals.{numeral_value, text_of}
 use Rattle.poly_grammar.specs.declared.step.PolyStep.{PolyStep}
 use Rattle.poly_grammar.specs.declared.step.PolyStep.TheVariants.{Add, Multiply, Name, Negate, Number, Power, Subtract}
 use Rattle.term_lists.specs.Rings.{variables}
 use Rattle.term_lists.specs.declared.ring.Ring.{Ring}
 use Rattle.sparse_poly.proofs.Bounding.{HasDegreeWithin_constant, HasDegreeWithin_power, HasDegreeWithin_product}
 use Rattle.sparse_poly.specs.Degrees.{HasDegreeWithin}
-use Rattle.sparse_poly.specs.Powers.{constant, power}
+use Rattle.sparse_poly.specs.Powers.{constant, polynomial_power}
 use Rattle.poly_value.specs.Parts.{HaveDegreesWithin}
-use Rattle.poly_value.specs.Values.{degrees_of, name_weight, place_of, polynomials_of, variable_sum, weight_at}
+use Rattle.poly_value.specs.Values.{line_degrees, name_weight, place_of, polynomials_of, variable_sum, weight_at}
 
 append_within : {n p d e : ℕ} {ws : List ℕ} (v w : FormalSum n) → HasDegreeWithin ws p d v → HasDegreeWithin ws p e w → HasDegreeWithin ws p (max d e) (v ++ w)
 append_within {n} {p} {d} {e} {ws} v w h g = record {
@@ -75,18 +75,18 @@ module _ (ring : Ring) (line : List ℕ) where
   -- a step keeps the bounds
   pub within_step :
       (step : PolyStep) (vs left : List (FormalSum (variables ring))) (ds lower : List ℕ) → worth_step (polynomials_of ring line) step vs ≡ Some left
-      → worth_step (degrees_of ring line) step ds ≡ Some lower → HaveDegreesWithin ring.weights ring.modulus.value vs ds
+      → worth_step (line_degrees ring line) step ds ≡ Some lower → HaveDegreesWithin ring.weights ring.modulus.value vs ds
       → HaveDegreesWithin ring.weights ring.modulus.value left lower
   within_step (Number t) vs left ds lower e f h =
-      moved (constant (variables ring) (value_of line t) ∷ vs) left (0 ∷ ds) lower e (same_Some (0 ∷ ds) lower f) (HasDegreeWithin_constant (variables ring) ring.weights ring.modulus.value (value_of line t), h)
+      moved (constant (variables ring) (numeral_value line t) ∷ vs) left (0 ∷ ds) lower e (same_Some (0 ∷ ds) lower f) (HasDegreeWithin_constant (variables ring) ring.weights ring.modulus.value (numeral_value line t), h)
   within_step (Name t) vs left ds lower e f h = named (place_of ring.vars (text_of line t)) vs left ds lower e (allowed (name_weight ring (text_of line t)) ds lower f).1 h
   within_step (Power t) [] left ds lower e f h = absurd (none-some left e)
   within_step (Power t) (v ∷ vs) left [] lower e f h = absurd h
   within_step (Power t) (v ∷ vs) left (d ∷ ds) lower e f h =
-      let k : ℕ = value_of line t in
+      let k : ℕ = numeral_value line t in
       let q : k * d ≡ d * k = omega arith in
-      moved (power v k ∷ vs) left ((d * k) ∷ ds) lower e (allowed (d * k) ds lower f).1
-      (subst (λ x. HasDegreeWithin ring.weights ring.modulus.value x (power v k)) q (HasDegreeWithin_power v k h.0), h.1)
+      moved (polynomial_power v k ∷ vs) left ((d * k) ∷ ds) lower e (allowed (d * k) ds lower f).1
+      (subst (λ x. HasDegreeWithin ring.weights ring.modulus.value x (polynomial_power v k)) q (HasDegreeWithin_power v k h.0), h.1)
   within_step Multiply [] left ds lower e f h = absurd (none-some left e)
   within_step Multiply (b ∷ []) left ds lower e f h = absurd (none-some left e)
   within_step Multiply (b ∷ a ∷ vs) left [] lower e f h = absurd h

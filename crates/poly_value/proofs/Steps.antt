@@ -7,8 +7,8 @@ use Rattle.script_tokens.specs.declared.token.Token.{Token}
 use Rattle.monomials.specs.Exponents.{unit}
 use Rattle.formal_sums.proofs.Sameness.{IsSame_sym, IsSame_trans}
 use Rattle.formal_sums.specs.FormalSums.{FormalSum, scale}
-use Rattle.poly_grammar.specs.Algebras.{Algebra, ◌>>=◌, top, worth_of_steps, worth_step, worths}
-use Rattle.poly_grammar.specs.Numerals.{value_of}
+use Rattle.poly_grammar.specs.Algebras.{Algebra, ◌>>=◌, stack_top, worth_of_steps, worth_step, worths}
+use Rattle.poly_grammar.specs.Numerals.{numeral_value}
 use Rattle.poly_grammar.specs.Steps.{numbers_of_steps}
 use Rattle.poly_grammar.specs.declared.step.PolyStep.{PolyStep}
 use Rattle.poly_grammar.specs.declared.step.PolyStep.TheVariants.{Add, Multiply, Name, Negate, Number, Power, Subtract}
@@ -21,7 +21,7 @@ use Rattle.sparse_poly.specs.Degrees.{HasDegreeWithin}
 use Rattle.poly_value.proofs.Degrees.{allowed, within_step}
 use Rattle.poly_value.specs.Parts.{Advances, AreParts, HaveDegreesWithin, IsOperandPart, IsStepReady, PowerFits, ProductFitsBounds}
 use Rattle.poly_value.specs.declared.operands.Operand.{Operand}
-use Rattle.poly_value.specs.Values.{degrees_of, polynomials_of}
+use Rattle.poly_value.specs.Values.{line_degrees, polynomials_of}
 
 -- minus v
 abbrev pub minus : (ring : Ring) → FormalSum (variables ring) → FormalSum (variables ring)
@@ -117,11 +117,11 @@ other_numerals P Negate more h = h
 
 -- where all steps have a worth, the first of them has one
 has_worth : {A : Type 0} (g : Algebra A) (step : PolyStep) (more : List PolyStep) (stack : List A) (all : Option A) (x : A) → all ≡ Some x
-    → (worths g (step ∷ more) stack >>= top) ≡ all → (left : List A) × (worth_step g step stack ≡ Some left) × ((worths g more left >>= top) ≡ all)
+    → (worths g (step ∷ more) stack >>= stack_top) ≡ all → (left : List A) × (worth_step g step stack ≡ Some left) × ((worths g more left >>= stack_top) ≡ all)
 has_worth {A} g step more stack all x w h = go (worth_step g step stack) refl h
   where
-    go : (o : Option (List A)) → worth_step g step stack ≡ o → ((o >>= worths g more) >>= top) ≡ all
-        → (left : List A) × (worth_step g step stack ≡ Some left) × ((worths g more left >>= top) ≡ all)
+    go : (o : Option (List A)) → worth_step g step stack ≡ o → ((o >>= worths g more) >>= stack_top) ≡ all
+        → (left : List A) × (worth_step g step stack ≡ Some left) × ((worths g more left >>= stack_top) ≡ all)
     go None e r = absurd (none-some x (r ∙ w))
     go (Some left) e r = (left, e, r)
 
@@ -129,27 +129,27 @@ has_worth {A} g step more stack all x w h = go (worth_step g step stack) refl h
 pub record IsWorking (ring : Ring) (line : List ℕ) (all left : List PolyStep) (stack : List Operand) : Type 0 where
   pub values : List (FormalSum (variables ring))
   pub parts : AreParts ring stack values
-  pub worth_is : (worths (polynomials_of ring line) left values >>= top) ≡ worth_of_steps (polynomials_of ring line) all
+  pub worth_is : (worths (polynomials_of ring line) left values >>= stack_top) ≡ worth_of_steps (polynomials_of ring line) all
   pub bounds : List ℕ
   pub within : HaveDegreesWithin ring.weights ring.modulus.value values bounds
-  pub degree_is : (worths (degrees_of ring line) left bounds >>= top) ≡ worth_of_steps (degrees_of ring line) all
-  pub numerals : AllByRecursion (λ t. value_of line t < 2 ^ 128) (numbers_of_steps left)
+  pub degree_is : (worths (line_degrees ring line) left bounds >>= stack_top) ≡ worth_of_steps (line_degrees ring line) all
+  pub numerals : AllByRecursion (λ t. numeral_value line t < 2 ^ 128) (numbers_of_steps left)
 
 module _ (ring : Ring) (line : List ℕ) (all : List PolyStep) (x : FormalSum (variables ring)) (d : ℕ)
-    (w : worth_of_steps (polynomials_of ring line) all ≡ Some x) (low : worth_of_steps (degrees_of ring line) all ≡ Some d) where
-  pub starts : AllByRecursion (λ t. value_of line t < 2 ^ 128) (numbers_of_steps all) → IsWorking ring line all all []
+    (w : worth_of_steps (polynomials_of ring line) all ≡ Some x) (low : worth_of_steps (line_degrees ring line) all ≡ Some d) where
+  pub starts : AllByRecursion (λ t. numeral_value line t < 2 ^ 128) (numbers_of_steps all) → IsWorking ring line all all []
   starts h = record { values = []; parts = tt; worth_is = refl; bounds = []; within = tt; degree_is = refl; numerals = h }
 
   ready : (more : List PolyStep) (step : PolyStep) (old : List Operand) → IsWorking ring line all (step ∷ more) old → IsStepReady ring line step old
   ready more step old h =
       let one = has_worth (polynomials_of ring line) step more h.values _ x w h.worth_is in
-      let other = has_worth (degrees_of ring line) step more h.bounds _ d low h.degree_is in
+      let other = has_worth (line_degrees ring line) step more h.bounds _ d low h.degree_is in
       record { values = h.values; parts = h.parts; worth = (one.0, one.1); bounds = h.bounds; within = h.within; degree = (other.0, other.1); numerals = first_numerals _ step more h.numerals }
 
   working_step : (more : List PolyStep) (step : PolyStep) (old new : List Operand) → IsWorking ring line all (step ∷ more) old → Advances ring line step old new → IsWorking ring line all more new
   working_step more step old new h advances =
       let one = has_worth (polynomials_of ring line) step more h.values _ x w h.worth_is in
-      let other = has_worth (degrees_of ring line) step more h.bounds _ d low h.degree_is in
+      let other = has_worth (line_degrees ring line) step more h.bounds _ d low h.degree_is in
       record {
         values = one.0;
         parts = advances h.values one.0 h.parts one.1;
@@ -187,7 +187,7 @@ product_fits ring line stack mid rest right left h e f = go h.values h.bounds (s
   where
     go :
         (vs : List (FormalSum (variables ring))) (ds : List ℕ) → AreParts ring (right ∷ left ∷ rest) vs → HaveDegreesWithin ring.weights ring.modulus.value vs ds
-        → worth_step (degrees_of ring line) Multiply ds ≡ Some h.degree.0 → ProductFitsBounds ring left.terms.items right.terms.items
+        → worth_step (line_degrees ring line) Multiply ds ≡ Some h.degree.0 → ProductFitsBounds ring left.terms.items right.terms.items
     go [] ds p q r = absurd p
     go (b ∷ []) ds p q r = absurd p.1
     go (b ∷ a ∷ vs) [] p q r = absurd q
@@ -198,16 +198,16 @@ product_fits ring line stack mid rest right left h e f = go h.values h.bounds (s
 
 pub power_fits :
     (ring : Ring) (line : List ℕ) (token : Token) (stack rest : List Operand) (base : Operand) (n : ℕ)
-    → IsStepReady ring line (Power token) stack → stack ≡ base ∷ rest → n ≡ value_of line token → PowerFits ring base.terms.items n
+    → IsStepReady ring line (Power token) stack → stack ≡ base ∷ rest → n ≡ numeral_value line token → PowerFits ring base.terms.items n
 power_fits ring line token stack rest base n h e is = go h.values h.bounds (subst (λ l. AreParts ring l h.values) e h.parts) h.within h.degree.1
   where
     go :
         (vs : List (FormalSum (variables ring))) (ds : List ℕ) → AreParts ring (base ∷ rest) vs → HaveDegreesWithin ring.weights ring.modulus.value vs ds
-        → worth_step (degrees_of ring line) (Power token) ds ≡ Some h.degree.0 → PowerFits ring base.terms.items n
+        → worth_step (line_degrees ring line) (Power token) ds ≡ Some h.degree.0 → PowerFits ring base.terms.items n
     go [] ds p q r = absurd p
     go (v ∷ vs) [] p q r = absurd q
     go (v ∷ vs) (d ∷ ds) p q r =
-        let k : ℕ = value_of line token in
+        let k : ℕ = numeral_value line token in
         let le : d * k ≤ 1000 = (allowed (d * k) ds h.degree.0 r).0 in
         let fits : k * d ≤ 65535 = omega arith in
         (d, sum_within ring d v base.terms.items p.0 q.0, subst (λ m. m * d ≤ 65535) (sym is) fits)
@@ -217,9 +217,9 @@ pub working_has_top :
     (ring : Ring) (line : List ℕ) (all left : List PolyStep) (stack : List Operand) (x : FormalSum (variables ring))
     → left ≡ [] → stack ≡ [] → worth_of_steps (polynomials_of ring line) all ≡ Some x → IsWorking ring line all left stack → ⊥
 working_has_top ring line all left stack x n s w h =
-    go h.values (subst (λ l. AreParts ring l h.values) s h.parts) (sym (ap (λ l. worths (polynomials_of ring line) l h.values >>= top) n) ∙ h.worth_is ∙ w)
+    go h.values (subst (λ l. AreParts ring l h.values) s h.parts) (sym (ap (λ l. worths (polynomials_of ring line) l h.values >>= stack_top) n) ∙ h.worth_is ∙ w)
   where
-    go : (vs : List (FormalSum (variables ring))) → AreParts ring [] vs → top vs ≡ Some x → ⊥
+    go : (vs : List (FormalSum (variables ring))) → AreParts ring [] vs → stack_top vs ≡ Some x → ⊥
     go [] p e = none-some x e
     go (v ∷ vs) p e = absurd p
 
@@ -229,9 +229,9 @@ pub working_ends :
     → left ≡ [] → stack ≡ operand ∷ rest → worth_of_steps (polynomials_of ring line) all ≡ Some x
     → IsWorking ring line all left stack → IsOperandPart ring x operand.terms.items
 working_ends ring line all left stack rest operand x n s w h =
-    go h.values (subst (λ l. AreParts ring l h.values) s h.parts) (sym (ap (λ l. worths (polynomials_of ring line) l h.values >>= top) n) ∙ h.worth_is ∙ w)
+    go h.values (subst (λ l. AreParts ring l h.values) s h.parts) (sym (ap (λ l. worths (polynomials_of ring line) l h.values >>= stack_top) n) ∙ h.worth_is ∙ w)
   where
-    go : (vs : List (FormalSum (variables ring))) → AreParts ring (operand ∷ rest) vs → top vs ≡ Some x → IsOperandPart ring x operand.terms.items
+    go : (vs : List (FormalSum (variables ring))) → AreParts ring (operand ∷ rest) vs → stack_top vs ≡ Some x → IsOperandPart ring x operand.terms.items
     go [] p e = absurd p
     go (v ∷ vs) p e = subst (λ y. IsOperandPart ring y operand.terms.items) (same_Some v x e) p.0
 

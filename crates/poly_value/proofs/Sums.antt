@@ -19,7 +19,7 @@ use Rattle.sparse_poly.proofs.Powering.{IsSame_power, IsSame_product_both}
 use Rattle.sparse_poly.proofs.Bounding.{HasDegreeWithin_same}
 use Rattle.sparse_poly.proofs.Terms.{HasPositions_of, IsPolynomial_of, IsWithinDegree_of}
 use Rattle.sparse_poly.specs.Degrees.{HasDegreeWithin, IsWithinDegree}
-use Rattle.sparse_poly.specs.Powers.{power}
+use Rattle.sparse_poly.specs.Powers.{polynomial_power}
 use Rattle.poly_value.specs.Parts.{IsOperandPart, IsSum}
 use Rattle.poly_value.specs.Values.{variable_sum}
 
@@ -64,7 +64,7 @@ product_stands ring a b left right out v w pos hv hw ha hb h =
 pub power_stands :
     (ring : Ring) (a base out : List (Key × ℕ)) (v : FormalSum (variables ring)) (k : ℕ)
     → 1 < ring.modulus.value → StandsFor ring base v → StandsFor ring a (sum_of (variables ring) base)
-    → StandsFor ring out (power (sum_of (variables ring) a) k) → StandsFor ring out (power v k)
+    → StandsFor ring out (polynomial_power (sum_of (variables ring) a) k) → StandsFor ring out (polynomial_power v k)
 power_stands ring a base out v k pos hv ha h = IsSame_trans h (IsSame_power (positive ring.modulus.value pos) (sum_of (variables ring) a) v k (IsSame_trans ha hv))
 
 -- two sums, one behind the other

@@ -2,7 +2,7 @@
 use Rattle.std.specs.Prelude.{List, Some, [], ◌*◌, ◌+◌, ◌<◌, ◌^◌, ◌∷◌, ◌≡◌, ◌≤◌, ℕ}
 use Rattle.std.specs.List.{AllByRecursion}
 use Rattle.poly_grammar.specs.Algebras.{worth_step}
-use Rattle.poly_grammar.specs.Numerals.{value_of}
+use Rattle.poly_grammar.specs.Numerals.{numeral_value}
 use Rattle.poly_grammar.specs.Steps.{numbers_of_steps}
 use Rattle.poly_grammar.specs.declared.step.PolyStep.{PolyStep}
 use Rattle.formal_sums.specs.FormalSums.{FormalSum}
@@ -12,7 +12,7 @@ use Rattle.term_lists.specs.declared.key.Key.{Key}
 use Rattle.term_lists.specs.declared.ring.Ring.{Ring}
 use Rattle.sparse_poly.specs.Degrees.{HasDegreeWithin}
 use Rattle.poly_value.specs.declared.operands.Operand.{Operand}
-use Rattle.poly_value.specs.Values.{degrees_of, polynomials_of}
+use Rattle.poly_value.specs.Values.{line_degrees, polynomials_of}
 
 -- terms of the ring at position 0, in any order and with repeats
 pub record IsSum (ring : Ring) (terms : List (Key × ℕ)) : Type 0 where
@@ -53,8 +53,8 @@ pub record IsStepReady (ring : Ring) (line : List ℕ) (step : PolyStep) (stack 
   pub worth : (left : List (FormalSum (variables ring))) × (worth_step (polynomials_of ring line) step values ≡ Some left)
   pub bounds : List ℕ
   pub within : HaveDegreesWithin ring.weights ring.modulus.value values bounds
-  pub degree : (left : List ℕ) × (worth_step (degrees_of ring line) step bounds ≡ Some left)
-  pub numerals : AllByRecursion (λ t. value_of line t < 2 ^ 128) (numbers_of_steps (step ∷ []))
+  pub degree : (left : List ℕ) × (worth_step (line_degrees ring line) step bounds ≡ Some left)
+  pub numerals : AllByRecursion (λ t. numeral_value line t < 2 ^ 128) (numbers_of_steps (step ∷ []))
 
 -- the step leads from one stack of sums, the top first, to the other
 abbrev pub Advances : Ring → List ℕ → PolyStep → List (Operand) → List (Operand) → Type 0

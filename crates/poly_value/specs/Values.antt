@@ -5,7 +5,7 @@ use Rattle.std.specs.Option.{option_map}
 use Rattle.script_tokens.specs.declared.token.Token.{Token}
 use Rattle.poly_grammar.specs.Algebras.{Algebra, worth}
 use Rattle.poly_grammar.specs.Degrees.{degrees}
-use Rattle.poly_grammar.specs.Numerals.{text_of, value_of}
+use Rattle.poly_grammar.specs.Numerals.{numeral_value, text_of}
 use Rattle.poly_grammar.specs.Trees.{Poly}
 use Rattle.monomials.specs.Exponents.{unit}
 use Rattle.formal_sums.specs.FormalSums.{FormalSum, product, scale}
@@ -14,7 +14,7 @@ use Rattle.term_lists.specs.Rings.{variables}
 use Rattle.term_lists.specs.Vectors.{StandsFor}
 use Rattle.term_lists.specs.declared.key.Key.{Key}
 use Rattle.term_lists.specs.declared.ring.Ring.{Ring}
-use Rattle.sparse_poly.specs.Powers.{constant, power}
+use Rattle.sparse_poly.specs.Powers.{constant, polynomial_power}
 
 -- the place, from 0, at which a name stands first among names
 abbrev pub place_of : List (List ℕ) → List ℕ → Option ℕ
@@ -31,8 +31,8 @@ abbrev pub name_weight : Ring → List ℕ → ℕ
 name_weight ring text = weight_at ring.weights (place_of ring.vars text)
 
 -- the formal degrees of a line by the ring's weights
-abbrev pub degrees_of : Ring → List ℕ → Algebra ℕ
-degrees_of ring line = degrees (λ t. name_weight ring (text_of line t)) (value_of line)
+abbrev pub line_degrees : Ring → List ℕ → Algebra ℕ
+line_degrees ring line = degrees (λ t. name_weight ring (text_of line t)) (numeral_value line)
 
 -- the variable with this index
 abbrev pub variable_sum : (n i : ℕ) → FormalSum n
@@ -44,7 +44,7 @@ abbrev pub polynomials : (n p : ℕ) → List (List ℕ) → (Token → List ℕ
 polynomials n p vars text value = record {
   number = λ token. Some (constant n (value token));
   name = λ token. option_map (variable_sum n) (place_of vars (text token));
-  raised = λ v exponent. Some (power v (value exponent));
+  raised = λ v exponent. Some (polynomial_power v (value exponent));
   product = λ v w. Some (product v w);
   sum = λ v w. Some (v ++ w);
   difference = λ v w. Some (v ++ scale (p - 1) (unit n) w);
@@ -53,7 +53,7 @@ polynomials n p vars text value = record {
 
 -- the polynomials of a ring, where tokens are those of the line
 abbrev pub polynomials_of : (ring : Ring) → List ℕ → Algebra (FormalSum (variables ring))
-polynomials_of ring line = polynomials (variables ring) ring.modulus.value ring.vars (text_of line) (value_of line)
+polynomials_of ring line = polynomials (variables ring) ring.modulus.value ring.vars (text_of line) (numeral_value line)
 
 -- terms stand for the value of the line's POLY
 pub record IsValue (ring : Ring) (line : List ℕ) (p : Poly) (terms : List (Key × ℕ)) : Type 0 where

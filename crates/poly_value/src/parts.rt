@@ -9,7 +9,7 @@ ghost use Rattle.term_lists.specs.Multiples.{rescaled};
 ghost use Rattle.term_lists.specs.Rings.{variables};
 ghost use Rattle.term_lists.specs.Vectors.{HasPositions, IsVectorOver, StandsFor, sum_of};
 ghost use Rattle.term_lists.specs.declared.stop.VectStop.TheVariants.{Memory};
-ghost use Rattle.sparse_poly.specs.Powers.{constant, power};
+ghost use Rattle.sparse_poly.specs.Powers.{constant, polynomial_power};
 ghost use Rattle.poly_value.specs.Parts.{IsOperandPart, IsSum, PowerFits, ProductFitsBounds};
 ghost use Rattle.poly_value.specs.Values.{variable_sum};
 
@@ -132,7 +132,7 @@ pub fn power_part<F: Frame>(
     requires base { IsSum (F.over frame.now) base.items }
     requires fits { PowerFits (F.over frame.now) base.items n }
     ensures { (v : FormalSum (variables (F.over frame.now))) → IsOperandPart (F.over frame.now) v base.items
-        → IfOk result (λ terms. IsOperandPart (F.over frame.now) (power v n) terms.items) }
+        → IfOk result (λ terms. IsOperandPart (F.over frame.now) (polynomial_power v n) terms.items) }
 {
     frame.ring().modulus.domain();
     let base = normal(alloc, frame, base)?;

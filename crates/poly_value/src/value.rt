@@ -4,11 +4,11 @@ ghost use Rattle.std.specs.Prelude.{◌≡◌, ◌<◌, ◌^◌, ℕ, Some, IfOk
 ghost use Rattle.std.specs.List.{AllByRecursion};
 ghost use Rattle.formal_sums.specs.FormalSums.{FormalSum};
 ghost use Rattle.poly_grammar.specs.Algebras.{worth_of_steps};
-ghost use Rattle.poly_grammar.specs.Numerals.{value_of};
+ghost use Rattle.poly_grammar.specs.Numerals.{numeral_value};
 ghost use Rattle.poly_grammar.specs.Steps.{numbers_of_steps};
 ghost use Rattle.term_lists.specs.Rings.{variables};
 ghost use Rattle.term_lists.specs.Vectors.{HasPositions, IsVectorOver, StandsFor};
-ghost use Rattle.poly_value.specs.Values.{degrees_of, polynomials_of};
+ghost use Rattle.poly_value.specs.Values.{line_degrees, polynomials_of};
 
 use crate::parts::normal;
 use crate::stack::{do_step, take_top};
@@ -27,8 +27,8 @@ pub fn polynomial_value<F: Frame>(
     steps: &[PolyStep],
 ) -> Result<Vect, NoMemory>
     requires worth { (x : FormalSum (variables (F.over frame.now))) × (worth_of_steps (polynomials_of (F.over frame.now) line.now) steps.now ≡ Some x) }
-    requires degree { (d : ℕ) × (worth_of_steps (degrees_of (F.over frame.now) line.now) steps.now ≡ Some d) }
-    requires numerals { AllByRecursion (λ t. value_of line.now t < 2 ^ 128) (numbers_of_steps steps.now) }
+    requires degree { (d : ℕ) × (worth_of_steps (line_degrees (F.over frame.now) line.now) steps.now ≡ Some d) }
+    requires numerals { AllByRecursion (λ t. numeral_value line.now t < 2 ^ 128) (numbers_of_steps steps.now) }
     ensures vector { IfOk result (λ v. IsVectorOver (F.over frame.now) (F.compare frame.now) v) }
     ensures polynomial { IfOk result (λ v. HasPositions 1 v) }
     ensures value { (x : FormalSum (variables (F.over frame.now)))

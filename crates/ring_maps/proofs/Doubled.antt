@@ -6,9 +6,9 @@ use Rattle.monomials.specs.Exponents.{cons, exponents_of, nil}
 use Rattle.bases.specs.Settings.{Setting}
 use Rattle.operation_laws.specs.Operations.{elimination_setting}
 use Rattle.map_laws.proofs.Places.{behind-variable}
-use Rattle.map_laws.specs.Graphs.{after, behind, fitted, variable}
+use Rattle.map_laws.specs.Graphs.{behind, exponents_from, fitted, variable_monomial}
 use Rattle.monomial_orders.specs.Comparisons.{key_comparison}
-use Rattle.monomial_orders.specs.Monomials.{IsMonomial, variable as monomial_variable}
+use Rattle.monomial_orders.specs.Monomials.{IsMonomial, variable}
 use Rattle.monomial_orders.specs.declared.order.Order.TheVariants.{Elim}
 use Rattle.monomial_orders.specs.declared.order.ModOrder.TheVariants.{Top}
 use Rattle.term_lists.specs.Doubling.{IsDoubled, second_name}
@@ -66,21 +66,21 @@ first_exponents (suc n) (suc m) (x ∷ xs) h = ap (cons x) (first_exponents n m 
 
 -- the exponents of the second variables
 pub second_exponents :
-    (n k m : ℕ) (xs : List ℕ) → length xs ≡ m → m ≡ k + n → exponents_of n (drop k xs) ≡ after n k (exponents_of m xs)
+    (n k m : ℕ) (xs : List ℕ) → length xs ≡ m → m ≡ k + n → exponents_of n (drop k xs) ≡ exponents_from n k (exponents_of m xs)
 second_exponents n zero m xs h e = first_exponents m n xs h
 second_exponents n (suc k) zero xs h e = absurd (omega (arith, e))
 second_exponents n (suc k) (suc m) [] h e = absurd (omega (arith, h))
 second_exponents n (suc k) (suc m) (x ∷ xs) h e = second_exponents n k m xs (omega (arith, h)) (omega (arith, e))
 
-variable_same : (n i : ℕ) → monomial_variable n i ≡ variable n i
+variable_same : (n i : ℕ) → variable n i ≡ variable_monomial n i
 variable_same zero i = refl
 variable_same (suc n) zero = refl
 variable_same (suc n) (suc i) = ap (cons 0) (variable_same n i)
 
 -- the second variable that stands for the one with index i
-pub second_variable_is : (n m i j : ℕ) → i < n → m ≡ n + n → j ≡ n + i → monomial_variable m j ≡ behind m n (variable n i)
+pub second_variable_is : (n m i j : ℕ) → i < n → m ≡ n + n → j ≡ n + i → variable m j ≡ behind m n (variable_monomial n i)
 second_variable_is n m i j lt two e =
-    variable_same m j ∙ ap (variable m) e ∙ sym (behind-variable n m n i lt (omega (arith, two)))
+    variable_same m j ∙ ap (variable_monomial m) e ∙ sym (behind-variable n m n i lt (omega (arith, two)))
 
 -- exponents with zeros behind them, up to so many
 pub with_zeros_same :
@@ -89,7 +89,7 @@ with_zeros_same count k xs old new le e h =
     ap (exponents_of count) h ∙ zeros_behind count (take count old) k ∙ ap (λ z. exponents_of count (take count z)) e ∙ ap (exponents_of count) (take_all count xs le)
 
 pub variable_among :
-    (n m k i j : ℕ) (y : List ℕ) → k ≡ m → IsMonomial k (monomial_variable k j) y → i < n → m ≡ n + n → j ≡ n + i
-    → exponents_of m y ≡ behind m n (variable n i)
+    (n m k i j : ℕ) (y : List ℕ) → k ≡ m → IsMonomial k (variable k j) y → i < n → m ≡ n + n → j ≡ n + i
+    → exponents_of m y ≡ behind m n (variable_monomial n i)
 variable_among n m k i j y e is lt two at =
-    subst (λ l. exponents_of l y ≡ monomial_variable l j) e is.exponents ∙ second_variable_is n m i j lt two at
+    subst (λ l. exponents_of l y ≡ variable l j) e is.exponents ∙ second_variable_is n m i j lt two at

@@ -8,7 +8,7 @@ use Rattle.bases.specs.Settings.{IsLawful}
 use Rattle.operation_laws.proofs.Linear.{Each_at}
 use Rattle.operation_laws.specs.Operations.{listed}
 use Rattle.map_laws.proofs.Evaluating.{graph_list_rank}
-use Rattle.map_laws.specs.Graphs.{behind, graph_list, graph_member, in_first, variable}
+use Rattle.map_laws.specs.Graphs.{behind, graph_list, graph_member, in_first, variable_monomial}
 use Rattle.term_lists.proofs.Scaling.{take_item}
 use Rattle.term_lists.specs.Rings.{ring_comparison, setting, variables}
 use Rattle.term_lists.specs.Vectors.{HasPositions, IsVectorOver, StandsFor, sum_of, sums_of}
@@ -49,7 +49,7 @@ pub member_next :
     (ring graph : Ring) (images vectors : List Terms) (i : ℕ) (f u : Terms) → f ≡ get_or images i []
     → AreVectorsFor graph (listed 0 i (graph_member ring.modulus.value (variables graph) (sums_of (variables ring) images))) vectors
     → IsVectorOver graph (ring_comparison graph) u
-    → StandsFor graph u (((0, behind (variables graph) (variables ring) (variable (variables ring) i)), 1)
+    → StandsFor graph u (((0, behind (variables graph) (variables ring) (variable_monomial (variables ring) i)), 1)
     ∷ scale (ring.modulus.value - 1) (unit (variables graph)) (in_first (variables graph) (sum_of (variables ring) f)))
     → AreVectorsFor graph (listed 0 (i + 1) (graph_member ring.modulus.value (variables graph) (sums_of (variables ring) images))) (vectors ++ u ∷ [])
 member_next ring graph images vectors i f u e h hu s =
@@ -58,10 +58,10 @@ member_next ring graph images vectors i f u e h hu s =
     let p = ring.modulus.value in
     let g : ℕ → FormalSum m = graph_member p m (sums_of n images) in
     let at : sum_of n f ≡ get_or (sums_of n images) i [] = ap (sum_of n) e ∙ sym (sums_at n images i) in
-    let y : FormalSum m = ((0, behind m n (variable n i)), 1) ∷ [] in
+    let y : FormalSum m = ((0, behind m n (variable_monomial n i)), 1) ∷ [] in
     subst (λ G. AreVectorsFor graph G (vectors ++ u ∷ [])) (sym (listed_next i g))
     (vectors_next graph vectors (listed 0 i g) u (g i) h hu
-    (subst (λ x. StandsFor graph u (((0, behind m n (variable n i)), 1) ∷ scale (p - 1) (unit m) (in_first m x))) at s))
+    (subst (λ x. StandsFor graph u (((0, behind m n (variable_monomial n i)), 1) ∷ scale (p - 1) (unit m) (in_first m x))) at s))
 
 -- ---- the members of the list behind them
 pub sums_next : (n : ℕ) (items : List Terms) (i : ℕ) (x : Terms) → i < length items → x ≡ get_or items i x → sums_of n (take (i + 1) items) ≡ sums_of n (take i items) ++ sum_of n x ∷ []

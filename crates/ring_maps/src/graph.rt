@@ -3,7 +3,7 @@ ghost use Rattle.std.specs.Prelude.{◌≡◌, ◌≤◌, ◌<◌, ◌++◌, ◌
 ghost use Rattle.monomials.specs.Exponents.{exponents_of, unit};
 ghost use Rattle.formal_sums.specs.FormalSums.{Each, FormalSum, scale};
 ghost use Rattle.operation_laws.specs.Operations.{listed};
-ghost use Rattle.map_laws.specs.Graphs.{behind, graph_list, graph_member, in_first, variable};
+ghost use Rattle.map_laws.specs.Graphs.{behind, graph_list, graph_member, in_first, variable_monomial};
 ghost use Rattle.term_lists.specs.Doubling.{IsDoubled};
 ghost use Rattle.term_lists.specs.Rings.{ring_comparison, variables};
 ghost use Rattle.term_lists.specs.Vectors.{AreTermsOver, AreVectorsOver, HasPositions, IsMonomialOver, IsVectorOver, StandsFor, sum_of, sums_of};
@@ -28,7 +28,7 @@ fn second_variable(alloc: Global, ring: &Ring, graph: &Ring, i: usize) -> Result
     requires index { i < variables ring.now }
     ensures over { IfOk result (IsMonomialOver graph.now) }
     ensures behind { let n = variables ring.now in let m = variables graph.now in
-        IfOk result (λ y. exponents_of m y.exponents ≡ behind m n (variable n i)) }
+        IfOk result (λ y. exponents_of m y.exponents ≡ behind m n (variable_monomial n i)) }
 {
     let from_last = ring.vars.len() - i;
     Ok(Mono::variable(alloc, &graph.weights, graph.weights.len() - from_last)?)
@@ -47,7 +47,7 @@ fn push_variable(
     requires terms { AreTermsOver graph.now terms.old.items }
     ensures over { OnOk result (AreTermsOver graph.now terms.new.items) }
     ensures sum { let n = variables ring.now in let m = variables graph.now in OnOk result
-        (sum_of m terms.new.items ≡ sum_of m terms.old.items ++ ((0, behind m n (variable n i)), 1) ∷ []) }
+        (sum_of m terms.new.items ≡ sum_of m terms.old.items ++ ((0, behind m n (variable_monomial n i)), 1) ∷ []) }
 {
     graph.modulus.domain();
     let monomial = second_variable(alloc, ring, graph, i)?;
@@ -89,7 +89,7 @@ fn graph_vector(
     requires terms { AreTermsOver ring.now f.now }
     ensures vector { IfOk result (IsVectorOver graph.now (ring_comparison graph.now)) }
     ensures stands { let n = variables ring.now in let m = variables graph.now in let p = ring.now.modulus.value in IfOk result
-        (λ u. StandsFor graph.now u (((0, behind m n (variable n i)), 1) ∷ scale (p - 1) (unit m) (in_first m (sum_of n f.now)))) }
+        (λ u. StandsFor graph.now u (((0, behind m n (variable_monomial n i)), 1) ∷ scale (p - 1) (unit m) (in_first m (sum_of n f.now)))) }
 {
     ring.modulus.domain();
     let own = f.terms();

@@ -2,7 +2,7 @@
 ghost use Rattle.std.specs.Prelude.{◌≡◌, ◌++◌, ◌∷◌, [], IfOk, List, OnOk};
 ghost use Rattle.monomials.specs.Exponents.{exponents_of};
 ghost use Rattle.formal_sums.specs.FormalSums.{Each, FormalSum};
-ghost use Rattle.map_laws.specs.Graphs.{after, from_second, of_second};
+ghost use Rattle.map_laws.specs.Graphs.{exponents_from, from_second, of_second};
 ghost use Rattle.term_lists.specs.Doubling.{IsDoubled};
 ghost use Rattle.term_lists.specs.Rings.{ring_comparison, variables};
 ghost use Rattle.term_lists.specs.Vectors.{AreTermsOver, IsMonomialOver, IsVectorOver, StandsFor, sum_of, sums_of};
@@ -20,7 +20,7 @@ fn second_monomial(alloc: Global, ring: &Ring, _graph: &Ring, m: &Mono) -> Resul
     requires monomial { IsMonomialOver _graph.now m.now }
     ensures over { IfOk result (IsMonomialOver ring.now) }
     ensures after { let n = variables ring.now in let k = variables _graph.now in
-        IfOk result (λ u. exponents_of n u.exponents ≡ after n n (exponents_of k m.now.exponents)) }
+        IfOk result (λ u. exponents_of n u.exponents ≡ exponents_from n n (exponents_of k m.now.exponents)) }
 {
     let (_, exponents) = m.exponents().split_at(ring.vars.len());
     Ok(monomial_of(alloc, ring, exponents)?)

@@ -22,11 +22,11 @@ use Rattle.term_lists.proofs.Scaling.{Each_at, take_item}
 use Rattle.pivot_table.specs.Law.{LeadsFit}
 use Rattle.row_laws.proofs.RowSpans.{IsInSpan_itself, IsInSpan_through}
 use Rattle.row_laws.specs.Rows.{IsInSpan}
-use Rattle.row_matrix.specs.Rows.{IsRow, RowShown, first_column, row_sum}
+use Rattle.row_matrix.specs.Rows.{IsRow, RowShown, first_column, no_row, row_sum, shown_row_at}
 use Rattle.dense_reduction.proofs.Adding.{Each_back, Each_front, Each_set}
 use Rattle.dense_reduction.proofs.Entries.{first_below, monic_entries}
 use Rattle.dense_reduction.proofs.Reducing.{zeros_at}
-use Rattle.dense_reduction.specs.Pivots.{ArePivots, lead_column, no_row, row_at, row_vectors}
+use Rattle.dense_reduction.specs.Pivots.{ArePivots, lead_column, row_vectors}
 use Rattle.dense_reduction.specs.Rests.{rows_left}
 use Rattle.dense_reduction.specs.Underway.{IsSpanned}
 use Rattle.dense_reduction.specs.Words.{WordNames, row_leads_of, named}
@@ -108,8 +108,8 @@ each_both : {X : Type 0} (P Q : X → Type 0) (xs : List X) → Each P xs → Ea
 each_both P Q [] a b = tt
 each_both P Q (x ∷ xs) a b = ((a.0, b.0), each_both P Q xs a.1 b.1)
 
-pub row_of : (P : RowShown → Type 0) (rows : List RowShown) (k : ℕ) → Each P rows → k < length rows → P (row_at rows k)
-row_of P rows k h lt = Each_at P rows k (row_at rows k) h lt (get_or_default rows k no_row (row_at rows k) lt)
+pub row_of : (P : RowShown → Type 0) (rows : List RowShown) (k : ℕ) → Each P rows → k < length rows → P (shown_row_at rows k)
+row_of P rows k h lt = Each_at P rows k (shown_row_at rows k) h lt (get_or_default rows k no_row (shown_row_at rows k) lt)
 
 pub lead_at : (rows : List RowShown) (k : ℕ) → k < length rows → get_or (row_leads_of rows) k 0 ≡ lead_column rows k
 lead_at rows k lt = get_or-map (λ (r : RowShown). first_column r.entries) rows k no_row 0 lt
@@ -144,7 +144,7 @@ spanned_through p A B h r s = λ n key. IsInSpan_through (row_vectors key A) (ro
 all_through : (p : ℕ) (A B C : List RowShown) → Each (IsSpanned p A) B → Each (IsSpanned p B) C → Each (IsSpanned p A) C
 all_through p A B C h s = each_more (IsSpanned p B) (IsSpanned p A) (spanned_through p A B h) C s
 
-spanned_itself : (p : ℕ) (A : List RowShown) (i : ℕ) → i < length A → IsSpanned p A (row_at A i)
+spanned_itself : (p : ℕ) (A : List RowShown) (i : ℕ) → i < length A → IsSpanned p A (shown_row_at A i)
 spanned_itself p A i lt = λ n key. subst (IsInSpan p (row_vectors key A)) (vector_at key A i lt) (IsInSpan_itself p (row_vectors key A) i)
 
 all_itself : (p : ℕ) (A : List RowShown) → Each (IsSpanned p A) A
@@ -159,30 +159,30 @@ some_some j k e = cc
 
 named_each :
     (P : RowShown → Type 0) (rows : List RowShown) (words : List (Option ℕ))
-    → ((c k : ℕ) → WordNames words c k → P (row_at rows k)) → Each P (named rows words)
+    → ((c k : ℕ) → WordNames words c k → P (shown_row_at rows k)) → Each P (named rows words)
 named_each P rows [] h = tt
 named_each P rows (None ∷ words) h = named_each P rows words (λ c k e. h (suc c) k e)
 named_each P rows (Some j ∷ words) h = (h 0 j refl, named_each P rows words (λ c k e. h (suc c) k e))
 
 named_same :
     (rows others : List RowShown) (words : List (Option ℕ))
-    → ((c k : ℕ) → WordNames words c k → row_at others k ≡ row_at rows k) → named others words ≡ named rows words
+    → ((c k : ℕ) → WordNames words c k → shown_row_at others k ≡ shown_row_at rows k) → named others words ≡ named rows words
 named_same rows others [] h = refl
 named_same rows others (None ∷ words) h = named_same rows others words (λ c k e. h (suc c) k e)
 named_same rows others (Some j ∷ words) h =
     let first = h 0 j refl in
     let rest = named_same rows others words (λ c k e. h (suc c) k e) in
-    ap (λ r. r ∷ named others words) first ∙ ap (λ xs. row_at rows j ∷ xs) rest
+    ap (λ r. r ∷ named others words) first ∙ ap (λ xs. shown_row_at rows j ∷ xs) rest
 
 contains_more : {X : Type 0} (x : X) (xs : List X) (y : X) → Contains xs y → Contains (x ∷ xs) y
 contains_more x xs y h = (suc h.0, omega (arith, h.1), h.2)
 
-named_contains : (rows : List RowShown) (words : List (Option ℕ)) (c k : ℕ) → WordNames words c k → Contains (named rows words) (row_at rows k)
+named_contains : (rows : List RowShown) (words : List (Option ℕ)) (c k : ℕ) → WordNames words c k → Contains (named rows words) (shown_row_at rows k)
 named_contains rows [] c k e = cc
 named_contains rows (None ∷ words) zero k e = cc
-named_contains rows (Some j ∷ words) zero k e = (0, omega arith, ap (row_at rows) (some_some j k e))
+named_contains rows (Some j ∷ words) zero k e = (0, omega arith, ap (shown_row_at rows) (some_some j k e))
 named_contains rows (None ∷ words) (suc c) k e = named_contains rows words c k e
-named_contains rows (Some j ∷ words) (suc c) k e = contains_more (row_at rows j) (named rows words) (row_at rows k) (named_contains rows words c k e)
+named_contains rows (Some j ∷ words) (suc c) k e = contains_more (shown_row_at rows j) (named rows words) (shown_row_at rows k) (named_contains rows words c k e)
 
 -- ---- rows in the places of others
 length_placed : (rows : List RowShown) (left : List Left) → length (with_left rows left) ≡ length rows
@@ -195,7 +195,7 @@ each_placed P rows (l ∷ left) h new = each_placed P (set rows l.number l.row) 
 
 placed_other :
     (rows : List RowShown) (left : List Left) (k : ℕ)
-    → Each (λ (l : Left). l.number ≡ k → ⊥) left → row_at (with_left rows left) k ≡ row_at rows k
+    → Each (λ (l : Left). l.number ≡ k → ⊥) left → shown_row_at (with_left rows left) k ≡ shown_row_at rows k
 placed_other rows [] k h = refl
 placed_other rows (l ∷ left) k h =
     placed_other (set rows l.number l.row) left k h.1 ∙ get_or-set_other rows l.number k l.row no_row (λ e. h.0 (sym e))
@@ -206,7 +206,7 @@ apart_from n (l ∷ left) h = ((λ e. (let t = eq-eqb n l.number (sym e) in let 
 
 placed_there :
     (rows : List RowShown) (left : List Left)
-    → IsDistinct eqb (places left) → Each (λ k. k < length rows) (places left) → Each (λ (l : Left). row_at (with_left rows left) l.number ≡ l.row) left
+    → IsDistinct eqb (places left) → Each (λ k. k < length rows) (places left) → Each (λ (l : Left). shown_row_at (with_left rows left) l.number ≡ l.row) left
 unfolding IsDistinct
 placed_there rows [] apart within = tt
 placed_there rows (l ∷ left) apart within =
@@ -218,11 +218,11 @@ placed_there rows (l ∷ left) apart within =
 
 places_rows :
     (rows : List RowShown) (left : List Left)
-    → Each (λ (l : Left). row_at rows l.number ≡ l.row) left → map (row_at rows) (places left) ≡ rows_left left
+    → Each (λ (l : Left). shown_row_at rows l.number ≡ l.row) left → map (shown_row_at rows) (places left) ≡ rows_left left
 places_rows rows [] h = refl
 places_rows rows (l ∷ left) h =
     let rest = places_rows rows left h.1 in
-    ap (λ (r : RowShown). r ∷ map (row_at rows) (places left)) h.0 ∙ ap (λ xs. l.row ∷ xs) rest
+    ap (λ (r : RowShown). r ∷ map (shown_row_at rows) (places left)) h.0 ∙ ap (λ xs. l.row ∷ xs) rest
 
 distinct_front : (xs ys : List ℕ) → IsDistinct eqb (xs ++ ys) → IsDistinct eqb xs
 unfolding IsDistinct
@@ -237,7 +237,7 @@ distinct_front (x ∷ xs) ys h = (front xs h.0, distinct_front xs ys h.1)
 room_less :
     (columns : ℕ) (rows others : List RowShown) (left : List Left)
     → Each (λ (l : Left). (lead_column rows l.number < first_column l.row.entries) × (first_column l.row.entries < columns)) left
-    → Each (λ (l : Left). row_at others l.number ≡ l.row) left
+    → Each (λ (l : Left). shown_row_at others l.number ≡ l.row) left
     → columns_behind columns others (places left) + length left ≤ columns_behind columns rows (places left)
 room_less columns rows others [] h same = omega arith
 room_less columns rows others (l ∷ left) h same =
@@ -264,7 +264,7 @@ lead_below :
     → (k : ℕ) → k < length rows → lead_column rows k < columns
 lead_below p columns inputs rows good k lt =
     let g = row_of (IsRow p columns inputs) rows k good lt in
-    first_below p columns (row_at rows k).entries g.entries g.monic
+    first_below p columns (shown_row_at rows k).entries g.entries g.monic
 
 -- the leads that are known are columns
 pub leads_columns :
@@ -302,7 +302,7 @@ map_same f g [] h = refl
 map_same f g (k ∷ ks) h = ap (λ r. r ∷ map f ks) h.0 ∙ ap (λ rs. g k ∷ rs) (map_same f g ks h.1)
 
 behind_same :
-    (columns : ℕ) (rows others : List RowShown) (ks : List ℕ) → Each (λ k. row_at others k ≡ row_at rows k) ks
+    (columns : ℕ) (rows others : List RowShown) (ks : List ℕ) → Each (λ k. shown_row_at others k ≡ shown_row_at rows k) ks
     → columns_behind columns others ks ≡ columns_behind columns rows ks
 behind_same columns rows others [] h = refl
 behind_same columns rows others (k ∷ ks) h =
@@ -355,18 +355,18 @@ module _ (p columns inputs : ℕ) (rows : List RowShown) (leads : List ℕ) (hel
       distinct_front (places left ++ later) pass.gone
       (IsDistinct-IsPermutation eqb eqb_flips pending ((places left ++ later) ++ pass.gone) whole h.apart)
 
-  there : Each (λ (l : Left). row_at new l.number ≡ l.row) left
+  there : Each (λ (l : Left). shown_row_at new l.number ≡ l.row) left
   there = placed_there rows left (distinct_front (places left) later next_apart) places_known
 
   -- the rows for later passes stay
-  later_stay : Each (λ k. row_at new k ≡ row_at rows k) later
+  later_stay : Each (λ k. shown_row_at new k ≡ shown_row_at rows k) later
   later_stay =
-      each_more (λ k. Each (λ x. x ≡ k → ⊥) (places left)) (λ k. row_at new k ≡ row_at rows k)
+      each_more (λ k. Each (λ x. x ≡ k → ⊥) (places left)) (λ k. shown_row_at new k ≡ shown_row_at rows k)
       (λ k apart. placed_other rows left k (each_unmap (λ x. x ≡ k → ⊥) (λ (l : Left). l.number) left apart)) later
       (distinct_parts (places left) later next_apart)
 
   -- the row that has a column stays
-  untouched : (c k : ℕ) → WordNames words c k → row_at new k ≡ row_at rows k
+  untouched : (c k : ℕ) → WordNames words c k → shown_row_at new k ≡ shown_row_at rows k
   untouched c k e = placed_other rows left k (each_more (IsLeftOf rows words) (λ (l : Left). l.number ≡ k → ⊥) (λ l lost same. clash l lost same) left pass.replaced)
     where
       fit : (k < length (row_leads_of rows)) × (get_or (row_leads_of rows) k 0 ≡ c)
@@ -384,7 +384,7 @@ module _ (p columns inputs : ℕ) (rows : List RowShown) (leads : List ℕ) (hel
   same_named : named new words ≡ named rows words
   same_named = named_same rows new words untouched
 
-  same_left : map (row_at new) (places left) ≡ rows_left left
+  same_left : map (shown_row_at new) (places left) ≡ rows_left left
   same_left = places_rows new left there
 
   monic : Each (IsRow p columns inputs) new
@@ -410,38 +410,38 @@ module _ (p columns inputs : ℕ) (rows : List RowShown) (leads : List ℕ) (hel
 
   -- what spans all from now on
   abbrev spanning : List RowShown
-  spanning = (named rows words ++ rows_left left) ++ map (row_at rows) later
+  spanning = (named rows words ++ rows_left left) ++ map (shown_row_at rows) later
 
-  new_span : named new words ++ map (row_at new) (places left ++ later) ≡ spanning
+  new_span : named new words ++ map (shown_row_at new) (places left ++ later) ≡ spanning
   new_span =
-      ap (λ xs. xs ++ map (row_at new) (places left ++ later)) same_named
-      ∙ ap (λ xs. named rows words ++ xs) (map-append (row_at new) (places left) later ∙ ap (λ xs. xs ++ map (row_at new) later) same_left
-      ∙ ap (λ xs. rows_left left ++ xs) (map_same (row_at new) (row_at rows) later later_stay))
-      ∙ sym (append_assoc (named rows words) (rows_left left) (map (row_at rows) later))
+      ap (λ xs. xs ++ map (shown_row_at new) (places left ++ later)) same_named
+      ∙ ap (λ xs. named rows words ++ xs) (map-append (shown_row_at new) (places left) later ∙ ap (λ xs. xs ++ map (shown_row_at new) later) same_left
+      ∙ ap (λ xs. rows_left left ++ xs) (map_same (shown_row_at new) (shown_row_at rows) later later_stay))
+      ∙ sym (append_assoc (named rows words) (rows_left left) (map (shown_row_at rows) later))
 
   itself : Each (IsSpanned p spanning) spanning
   itself = all_itself p spanning
 
   through : Each (IsSpanned p spanning) (named rows words ++ rows_left left)
-  through = Each_front (IsSpanned p spanning) (named rows words ++ rows_left left) (map (row_at rows) later) itself
+  through = Each_front (IsSpanned p spanning) (named rows words ++ rows_left left) (map (shown_row_at rows) later) itself
 
-  old_in : Each (IsSpanned p spanning) (named rows held ++ map (row_at rows) (now ++ later))
+  old_in : Each (IsSpanned p spanning) (named rows held ++ map (shown_row_at rows) (now ++ later))
   old_in =
       let front : Each (IsSpanned p spanning) (named rows words) = Each_front (IsSpanned p spanning) (named rows words) (rows_left left) through in
-      Each_append (IsSpanned p spanning) (named rows held) (map (row_at rows) (now ++ later))
-      (named_each (IsSpanned p spanning) rows held (λ c k e. member (IsSpanned p spanning) (named rows words) (row_at rows k) front (named_contains rows words c k (pass.stayed c k e))))
-      (subst (Each (IsSpanned p spanning)) (sym (map-append (row_at rows) now later))
-      (Each_append (IsSpanned p spanning) (map (row_at rows) now) (map (row_at rows) later)
-      (all_through p spanning (named rows words ++ rows_left left) (map (row_at rows) now) through (each_map (IsSpanned p (named rows words ++ rows_left left)) (row_at rows) now pass.inside))
-      (Each_back (IsSpanned p spanning) (named rows words ++ rows_left left) (map (row_at rows) later) itself)))
+      Each_append (IsSpanned p spanning) (named rows held) (map (shown_row_at rows) (now ++ later))
+      (named_each (IsSpanned p spanning) rows held (λ c k e. member (IsSpanned p spanning) (named rows words) (shown_row_at rows k) front (named_contains rows words c k (pass.stayed c k e))))
+      (subst (Each (IsSpanned p spanning)) (sym (map-append (shown_row_at rows) now later))
+      (Each_append (IsSpanned p spanning) (map (shown_row_at rows) now) (map (shown_row_at rows) later)
+      (all_through p spanning (named rows words ++ rows_left left) (map (shown_row_at rows) now) through (each_map (IsSpanned p (named rows words ++ rows_left left)) (shown_row_at rows) now pass.inside))
+      (Each_back (IsSpanned p spanning) (named rows words ++ rows_left left) (map (shown_row_at rows) later) itself)))
 
-  all_in : Each (IsSpanned p spanning) (named rows held ++ map (row_at rows) pending)
+  all_in : Each (IsSpanned p spanning) (named rows held ++ map (shown_row_at rows) pending)
   all_in =
-      Each_append (IsSpanned p spanning) (named rows held) (map (row_at rows) pending)
-      (Each_front (IsSpanned p spanning) (named rows held) (map (row_at rows) (now ++ later)) old_in)
-      (each_map (IsSpanned p spanning) (row_at rows) pending
-      (Each_permutation (λ k. IsSpanned p spanning (row_at rows k)) (now ++ later) pending (IsPermutation-sym pending (now ++ later) some.parts)
-      (each_unmap (IsSpanned p spanning) (row_at rows) (now ++ later) (Each_back (IsSpanned p spanning) (named rows held) (map (row_at rows) (now ++ later)) old_in))))
+      Each_append (IsSpanned p spanning) (named rows held) (map (shown_row_at rows) pending)
+      (Each_front (IsSpanned p spanning) (named rows held) (map (shown_row_at rows) (now ++ later)) old_in)
+      (each_map (IsSpanned p spanning) (shown_row_at rows) pending
+      (Each_permutation (λ k. IsSpanned p spanning (shown_row_at rows k)) (now ++ later) pending (IsPermutation-sym pending (now ++ later) some.parts)
+      (each_unmap (IsSpanned p spanning) (shown_row_at rows) (now ++ later) (Each_back (IsSpanned p spanning) (named rows held) (map (shown_row_at rows) (now ++ later)) old_in))))
 
   -- a lead whose row is pending has its column, or is pending still
   lead_next :
@@ -452,7 +452,7 @@ module _ (p columns inputs : ℕ) (rows : List RowShown) (leads : List ℕ) (hel
         let own = member_of (λ m. (w : ℕ) × WordNames words (lead_column rows m) w) now i pass.claimed k in
         inl (own.0, subst (λ d. WordNames words d own.0) e own.1)
     | inr k ↦
-        let same : row_at new i ≡ row_at rows i = member_of (λ m. row_at new m ≡ row_at rows m) later i later_stay k in
+        let same : shown_row_at new i ≡ shown_row_at rows i = member_of (λ m. shown_row_at new m ≡ shown_row_at rows m) later i later_stay k in
         inr (Contains-append_right (places left) later i k, ap (λ (r : RowShown). first_column r.entries) same ∙ e)
   ]
 
@@ -464,7 +464,7 @@ module _ (p columns inputs : ℕ) (rows : List RowShown) (leads : List ℕ) (hel
       | inl k ↦ inl (k.0, pass.stayed (lead_column M i) k.0 k.1)
       | inr k ↦ lead_next (lead_column M i) i k.1 k.0
     ];
-    inside = subst (λ S. Each (IsSpanned p S) M) (sym new_span) (all_through p spanning (named rows held ++ map (row_at rows) pending) M all_in from.inside);
+    inside = subst (λ S. Each (IsSpanned p S) M) (sym new_span) (all_through p spanning (named rows held ++ map (shown_row_at rows) pending) M all_in from.inside);
     outside = each_placed (IsSpanned p M) rows left from.outside (all_through p M rows (rows_left left) from.outside pass.outside);
     combined = λ n F key all.
         let old = from.combined n F key all in
@@ -542,7 +542,7 @@ between_start p columns inputs rows good = record {
 }
 
 abbrev pending_rows : List RowShown → List RowShown
-pending_rows rows = map (row_at rows) (range_with_len 0 (length rows))
+pending_rows rows = map (shown_row_at rows) (range_with_len 0 (length rows))
 
 pub from_start :
     (p columns : ℕ) (rows : List RowShown) → AreFrom p rows rows (replicate columns None) (range_with_len 0 (length rows))
@@ -551,8 +551,8 @@ from_start p columns rows = record {
   leads = λ i lt. inr ((i, omega (arith, length-range_with_len 0 (length rows)), get_or-range_with_len 0 (length rows) i i lt ∙ plain i), refl);
   inside = subst (λ xs. Each (IsSpanned p (xs ++ pending_rows rows)) rows) (sym (named_none rows columns))
       (each_from (IsSpanned p (pending_rows rows)) no_row rows
-      (λ i lt. subst (IsSpanned p (pending_rows rows)) (get_or-map-range_with_len (row_at rows) 0 (length rows) i i no_row lt (plain i))
-      (spanned_itself p (pending_rows rows) i (omega (arith, length-map-range_with_len (row_at rows) 0 (length rows))))));
+      (λ i lt. subst (IsSpanned p (pending_rows rows)) (get_or-map-range_with_len (shown_row_at rows) 0 (length rows) i i no_row lt (plain i))
+      (spanned_itself p (pending_rows rows) i (omega (arith, length-map-range_with_len (shown_row_at rows) 0 (length rows))))));
   outside = all_itself p rows;
   combined = λ n F key from. from;
 }
@@ -666,15 +666,15 @@ module _ (p columns inputs : ℕ) (M rows : List RowShown) (leads : List ℕ) (h
   with_lead i lt = elim (from.leads i lt) [
     | inl w ↦
         let N = named rows held in
-        let there = Contains-permutation N (reverse N) (row_at rows w.0) (IsPermutation-reverse N) (named_contains rows held (lead_column M i) w.0 w.1) in
-        (there.0, there.1, ap (λ (r : RowShown). first_column r.entries) (get_or_default (reverse N) there.0 no_row (row_at rows w.0) there.1 ∙ there.2) ∙ (fit (lead_column M i) w.0 w.1).1)
+        let there = Contains-permutation N (reverse N) (shown_row_at rows w.0) (IsPermutation-reverse N) (named_contains rows held (lead_column M i) w.0 w.1) in
+        (there.0, there.1, ap (λ (r : RowShown). first_column r.entries) (get_or_default (reverse N) there.0 no_row (shown_row_at rows w.0) there.1 ∙ there.2) ∙ (fit (lead_column M i) w.0 w.1).1)
     | inr w ↦ absurd (let lt' : w.0.0 < length pending = w.0.1 in let z : length pending ≡ 0 = ap length none in omega arith)
   ]
 
   spanned : Each (IsSpanned p (reverse (named rows held))) M
   spanned =
       let N = named rows held in
-      let all : N ++ map (row_at rows) pending ≡ N = ap (λ ks. N ++ map (row_at rows) ks) none ∙ append-nil N in
+      let all : N ++ map (shown_row_at rows) pending ≡ N = ap (λ ks. N ++ map (shown_row_at rows) ks) none ∙ append-nil N in
       all_through p (reverse N) N M
       (Each_permutation (IsSpanned p (reverse N)) (reverse N) N (IsPermutation-sym N (reverse N) (IsPermutation-reverse N)) (all_itself p (reverse N)))
       (subst (λ S. Each (IsSpanned p S) M) all from.inside)
@@ -766,19 +766,19 @@ module _ (R : List RowShown) (held : List (Option ℕ)) (past : ℕ) (lt : past 
       (l, sym (lead_at R k l) ∙ f.1)
 
   module _ (k : ℕ) (e : get_or held (length held - 1 - past) None ≡ Some k) (rows found : List RowShown)
-      (count : length rows ≡ length R) (kept : (j : ℕ) → lead_column R j < length held - past → row_at rows j ≡ row_at R j) where
+      (count : length rows ≡ length R) (kept : (j : ℕ) → lead_column R j < length held - past → shown_row_at rows j ≡ shown_row_at R j) where
     pub taken_found :
         (r : RowShown) → found ≡ reverse (named R (drop (length held - past) held)) → r ≡ get_or rows k r
         → found ++ r ∷ [] ≡ reverse (named R (drop (length held - (past + 1)) held))
     taken_found r listed is =
         let N = named R (drop (length held - past) held) in
         let f = taken_fit k e in
-        let same : r ≡ row_at R k = is ∙ get_or_default rows k r no_row (omega (arith, f.0, count)) ∙ kept k (omega (arith, f.1)) in
-        ap (λ xs. xs ++ r ∷ []) listed ∙ ap (λ x. reverse N ++ x ∷ []) same ∙ sym (reverse-append (row_at R k ∷ []) N)
+        let same : r ≡ shown_row_at R k = is ∙ get_or_default rows k r no_row (omega (arith, f.0, count)) ∙ kept k (omega (arith, f.1)) in
+        ap (λ xs. xs ++ r ∷ []) listed ∙ ap (λ x. reverse N ++ x ∷ []) same ∙ sym (reverse-append (shown_row_at R k ∷ []) N)
         ∙ ap (λ xs. reverse (named R xs)) (sym (here ∙ ap (λ w. w ∷ drop (length held - past) held) e))
 
     pub taken_kept :
-        (none : RowShown) (j : ℕ) → lead_column R j < length held - (past + 1) → row_at (set rows k none) j ≡ row_at R j
+        (none : RowShown) (j : ℕ) → lead_column R j < length held - (past + 1) → shown_row_at (set rows k none) j ≡ shown_row_at R j
     taken_kept none j less =
         let f = taken_fit k e in
         get_or-set_other rows k j none no_row (λ same. (let q : lead_column R j ≡ lead_column R k = ap (lead_column R) same in omega (arith, f.1)))

@@ -12,9 +12,10 @@ use Rattle.term_lists.proofs.Scaling.{Each_at}
 use Rattle.term_lists.specs.declared.key.Key.{Key as CodeKey}
 use Rattle.row_laws.specs.Jobs.{IsEchelonForm}
 use Rattle.row_laws.specs.Rows.{HasDistinctLeads}
-use Rattle.row_matrix.specs.Rows.{AreEntries, Descend, Entry, IsRow, RowShown, column_key, first_column, first_residue, row_sum, vector_of, vectors_of}
+use Rattle.row_matrix.specs.Rows.{AreEntries, Descend, Entry, IsRow, RowShown}
+use Rattle.row_matrix.specs.Rows.{column_key, first_column, first_residue, no_row, row_sum, shown_row_at, vector_of, vectors_of}
 use Rattle.dense_reduction.proofs.Entries.{entries_from, entries_within, first_below}
-use Rattle.dense_reduction.specs.Pivots.{lead_column, no_row, row_at}
+use Rattle.dense_reduction.specs.Pivots.{lead_column}
 use Rattle.row_reduce.specs.Echelons.{IsEchelonOf}
 
 module _ (n : ℕ) (S : Setting n) (lawful : IsLawful S) (columns : List CodeKey) (descend : Descend n S.compare columns) where
@@ -88,14 +89,14 @@ module _ (n : ℕ) (S : Setting n) (lawful : IsLawful S) (columns : List CodeKey
       size : length (vectors_of n columns E) ≡ length E
       size = length-map E (λ (r : RowShown). vector_of n columns r)
 
-      good : (k : ℕ) → k < length E → IsRow S.modulus (length columns) inputs (row_at E k)
-      good k lt = Each_at (IsRow S.modulus (length columns) inputs) E k (row_at E k) h.rows lt (get_or_default E k no_row (row_at E k) lt)
+      good : (k : ℕ) → k < length E → IsRow S.modulus (length columns) inputs (shown_row_at E k)
+      good k lt = Each_at (IsRow S.modulus (length columns) inputs) E k (shown_row_at E k) h.rows lt (get_or_default E k no_row (shown_row_at E k) lt)
 
       lead : (k : ℕ) → k < length E → head_key (get_or (vectors_of n columns E) k []) ≡ column_key n columns (lead_column E k)
-      lead k lt = ap head_key (get_or-map (λ (r : RowShown). vector_of n columns r) E k no_row [] lt) ∙ key_first (row_at E k).entries (good k lt).monic
+      lead k lt = ap head_key (get_or-map (λ (r : RowShown). vector_of n columns r) E k no_row [] lt) ∙ key_first (shown_row_at E k).entries (good k lt).monic
 
       below : (k : ℕ) → k < length E → lead_column E k < length columns
-      below k lt = let g = good k lt in first_below S.modulus (length columns) (row_at E k).entries g.entries g.monic
+      below k lt = let g = good k lt in first_below S.modulus (length columns) (shown_row_at E k).entries g.entries g.monic
 
       apart : (j k : ℕ) → j < k → k < length (vectors_of n columns E) → head_key (get_or (vectors_of n columns E) j []) ≡ head_key (get_or (vectors_of n columns E) k []) → ⊥
       apart j k lt l e =

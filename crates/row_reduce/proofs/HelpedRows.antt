@@ -12,13 +12,13 @@ use Rattle.term_lists.proofs.Gathers.{Each_permutation}
 use Rattle.term_lists.proofs.Parts.{Each_member}
 use Rattle.pivot_table.specs.Law.{LeadsFit, Tallies}
 use Rattle.pivot_table.specs.declared.law.Entry.{Entry as Told}
-use Rattle.row_matrix.specs.Rows.{IsRow, RowShown, first_column, row_sum}
+use Rattle.row_matrix.specs.Rows.{IsRow, RowShown, first_column, no_row, row_sum, shown_row_at}
 use Rattle.dense_reduction.proofs.Adding.{Each_back, Each_front}
 use Rattle.dense_reduction.proofs.Claimed.{HasWon, item_taken, lead_read, lost_at, lost_stays, none_taken, put_between}
 use Rattle.dense_reduction.proofs.Entries.{first_below}
 use Rattle.dense_reduction.proofs.Naming.{named_span, span_at, span_left, span_right, span_through, told_before}
 use Rattle.dense_reduction.specs.LostRows.{AreClaimed, IsLost, numbers}
-use Rattle.dense_reduction.specs.Pivots.{ArePivots, lead_column, no_row, row_at}
+use Rattle.dense_reduction.specs.Pivots.{ArePivots, lead_column}
 use Rattle.dense_reduction.specs.Rests.{IsGone, IsRowLeft, IsRestFrom, rows_left}
 use Rattle.dense_reduction.specs.Underway.{AreRowsCombined, IsSpanned}
 use Rattle.dense_reduction.specs.Words.{AreAsTold, IsToldAfter, WordNames, row_leads_of, named}
@@ -34,7 +34,7 @@ HasColumn rows words m = (k : ℕ) × WordNames words (lead_column rows m) k
 
 -- rows that words name and rows left span it
 abbrev IsInside : ℕ → List RowShown → List (Option ℕ) → List RowShown → ℕ → Type 0
-IsInside p rows words own m = IsSpanned p (named rows words ++ own) (row_at rows m)
+IsInside p rows words own m = IsSpanned p (named rows words ++ own) (shown_row_at rows m)
 
 -- ---- rows in the span of rows
 -- what rows of the span span
@@ -71,14 +71,14 @@ inside_more :
     → Each (IsInside p rows words own) mine → Each (IsInside p rows words (own ++ more)) mine
 inside_more p rows words own more mine h =
     Each_map (IsInside p rows words own) (IsInside p rows words (own ++ more)) mine
-    (λ m s. spanned_more p (named rows words) own more (row_at rows m) s) h
+    (λ m s. spanned_more p (named rows words) own more (shown_row_at rows m) s) h
 
 inside_before :
     (p : ℕ) (rows : List RowShown) (words : List (Option ℕ)) (before own : List RowShown) (mine : List ℕ)
     → Each (IsInside p rows words own) mine → Each (IsInside p rows words (before ++ own)) mine
 inside_before p rows words before own mine h =
     Each_map (IsInside p rows words own) (IsInside p rows words (before ++ own)) mine
-    (λ m s. spanned_before p (named rows words) before own (row_at rows m) s) h
+    (λ m s. spanned_before p (named rows words) before own (shown_row_at rows m) s) h
 
 pub told_after : (words : List (Option ℕ)) (told more : List Told) → AreAsTold words (told ++ more) → AreAsTold words more
 told_after words [] more a = a
@@ -150,7 +150,7 @@ module _ (p columns inputs : ℕ) (rows : List RowShown) where
     claimed = λ words a. Each_map (HasWon rows told) (HasColumn rows words) won (λ m t. (m, t.named words a)) h;
     inside = λ words a.
         Each_map (HasWon rows told) (IsInside p rows words []) won
-        (λ m t. spanned_left p (named rows words) [] (row_at rows m) (λ n key. named_span key rows words (lead_column rows m) m (t.named words a))) h;
+        (λ m t. spanned_left p (named rows words) [] (shown_row_at rows m) (λ n key. named_span key rows words (lead_column rows m) m (t.named words a))) h;
     outside = tt;
     combined = λ n F key from. tt;
   }
@@ -232,7 +232,7 @@ module _ (p columns inputs : ℕ) (rows : List RowShown) where
   -- one more row, of which nothing is left
   helped_gone :
       (mine : List ℕ) (told : List Told) (left : List Left) (l : Lost)
-      → AreHelped p columns inputs rows mine told left → IsLost rows told l → IsGone p rows (rows_left left) told (row_at rows l.number)
+      → AreHelped p columns inputs rows mine told left → IsLost rows told l → IsGone p rows (rows_left left) told (shown_row_at rows l.number)
       → AreHelped p columns inputs rows (mine ++ l.number ∷ []) told left
   helped_gone mine told left l h lost gone = record {
     good = h.good;
@@ -250,7 +250,7 @@ module _ (p columns inputs : ℕ) (rows : List RowShown) where
   -- one more row, and what is left in its place
   helped_rest :
       (mine : List ℕ) (told : List Told) (left : List Left) (l : Lost) (r : RowShown)
-      → AreHelped p columns inputs rows mine told left → IsLost rows told l → IsRowLeft p columns inputs rows (rows_left left) told (row_at rows l.number) r
+      → AreHelped p columns inputs rows mine told left → IsLost rows told l → IsRowLeft p columns inputs rows (rows_left left) told (shown_row_at rows l.number) r
       → AreHelped p columns inputs rows (mine ++ l.number ∷ []) told (left ++ record { number = l.number; row = r } ∷ [])
   helped_rest mine told left l r h lost rest = record {
     good = subst (Each (IsRow p columns inputs)) (sym shown) (Each_append (IsRow p columns inputs) (rows_left left) (r ∷ []) h.good (rest.good, tt));
@@ -267,7 +267,7 @@ module _ (p columns inputs : ℕ) (rows : List RowShown) where
         subst (λ X. Each (IsInside p rows words X) (mine ++ l.number ∷ [])) (sym shown)
         (Each_append (IsInside p rows words (rows_left left ++ r ∷ [])) mine (l.number ∷ [])
         (inside_more p rows words (rows_left left) (r ∷ []) mine (h.inside words a))
-        (subst (λ X. IsSpanned p X (row_at rows l.number)) (append_assoc (named rows words) (rows_left left) (r ∷ [])) (rest.inside words a), tt));
+        (subst (λ X. IsSpanned p X (shown_row_at rows l.number)) (append_assoc (named rows words) (rows_left left) (r ∷ [])) (rest.inside words a), tt));
     outside = subst (Each (IsSpanned p rows)) (sym shown) (Each_append (IsSpanned p rows) (rows_left left) (r ∷ []) h.outside (spanned, tt));
     combined = λ n F key from.
         let own = h.combined n F key from in
@@ -289,8 +289,8 @@ module _ (p columns inputs : ℕ) (rows : List RowShown) where
 
       spanned : IsSpanned p rows r
       spanned =
-          spanned_through p ((rows ++ rows_left left) ++ row_at rows l.number ∷ []) rows r
-          (Each_append (IsSpanned p rows) (rows ++ rows_left left) (row_at rows l.number ∷ [])
+          spanned_through p ((rows ++ rows_left left) ++ shown_row_at rows l.number ∷ []) rows r
+          (Each_append (IsSpanned p rows) (rows ++ rows_left left) (shown_row_at rows l.number ∷ [])
           (Each_append (IsSpanned p rows) rows (rows_left left) (spanned_rows p rows) h.outside)
           (Each_member (IsSpanned p rows) rows l.number no_row (spanned_rows p rows) lost.known, tt))
           rest.outside
@@ -375,8 +375,8 @@ module _ (p columns inputs : ℕ) (rows : List RowShown) where
       → (row : ℕ) → row < length leads → slice_index leads row < columns
   leads_within leads good known row lt =
       let l : row < length rows = omega (arith, lt, ap length known, length-map rows (λ (r : RowShown). first_column r.entries)) in
-      let h : IsRow p columns inputs (row_at rows row) = Each_member (IsRow p columns inputs) rows row no_row good l in
-      subst (λ c. c < columns) (sym (lead_read rows leads row known l)) (first_below p columns (row_at rows row).entries h.entries h.monic)
+      let h : IsRow p columns inputs (shown_row_at rows row) = Each_member (IsRow p columns inputs) rows row no_row good l in
+      subst (λ c. c < columns) (sym (lead_read rows leads row known l)) (first_below p columns (shown_row_at rows row).entries h.entries h.monic)
 
   -- what helpers leave, and the words at the end
   pub passed :

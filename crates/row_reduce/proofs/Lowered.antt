@@ -5,7 +5,7 @@ use Rattle.formal_sums.proofs.Combining.{Each_map}
 use Rattle.formal_sums.proofs.WeightedSums.{Each_append}
 use Rattle.formal_sums.specs.FormalSums.{Each}
 use Rattle.pivot_table.specs.declared.law.Entry.{Entry as Told}
-use Rattle.row_matrix.specs.Rows.{IsRow, RowShown, first_column}
+use Rattle.row_matrix.specs.Rows.{IsRow, RowShown, first_column, shown_row_at}
 use Rattle.dense_reduction.proofs.Adding.{Each_back, Each_front}
 use Rattle.dense_reduction.proofs.Claimed.{all_lost_stay, item_taken}
 use Rattle.dense_reduction.proofs.Entries.{first_below}
@@ -13,7 +13,7 @@ use Rattle.dense_reduction.proofs.Naming.{follows_same, told_before}
 use Rattle.dense_reduction.proofs.Reducing.{span_last}
 use Rattle.dense_reduction.proofs.Steps.{least_above}
 use Rattle.dense_reduction.specs.LostRows.{IsLost, numbers}
-use Rattle.dense_reduction.specs.Pivots.{ArePivots, lead_column, row_at}
+use Rattle.dense_reduction.specs.Pivots.{ArePivots, lead_column}
 use Rattle.dense_reduction.specs.Reductions.{least_left}
 use Rattle.dense_reduction.specs.Rests.{IsGone, IsRowLeft, IsRestFrom, rows_left}
 use Rattle.dense_reduction.specs.Together.{AreRests, IsRowRestOrGone}
@@ -143,11 +143,11 @@ module _ (p columns inputs : ℕ) (rows : List RowShown) where
   -- what is kept of the rest takes the place of the row
   pub rest_kept :
       (first told : List Told) (start old new more : List Left) (l : Lost) (r : RowShown)
-      → IsToldAfter first told → old ≡ start ++ more → IsRowLeft p columns inputs rows (rows_left start) first (row_at rows l.number) r
+      → IsToldAfter first told → old ≡ start ++ more → IsRowLeft p columns inputs rows (rows_left start) first (shown_row_at rows l.number) r
       → IsRestKept p columns inputs rows told l.number r old new → IsReplaced p columns inputs rows told l old new
   rest_kept first told start old new more l r f e rest kept =
       let shown : rows_left old ≡ rows_left start ++ rows_left more = ap rows_left e ∙ map-append (λ (x : Left). x.row) start more in
-      let row = row_at rows l.number in
+      let row = shown_row_at rows l.number in
       elim kept [
         | inl g ↦ inl (
           g.0,
@@ -166,14 +166,14 @@ module _ (p columns inputs : ℕ) (rows : List RowShown) where
   -- nothing is left of the row
   pub gone_kept :
       (first told : List Told) (start old more : List Left) (l : Lost)
-      → IsToldAfter first told → old ≡ start ++ more → IsGone p rows (rows_left start) first (row_at rows l.number)
+      → IsToldAfter first told → old ≡ start ++ more → IsGone p rows (rows_left start) first (shown_row_at rows l.number)
       → IsReplaced p columns inputs rows told l old old
   gone_kept first told start old more l f e gone =
       let shown : rows_left old ≡ rows_left start ++ rows_left more = ap rows_left e ∙ map-append (λ (x : Left). x.row) start more in
       inl (
         refl,
-        subst (λ own. IsGone p rows own told (row_at rows l.number)) (sym shown)
-            (gone_grown p columns inputs rows first told f (rows_left start) (rows_left more) (row_at rows l.number) (row_at rows l.number) gone),
+        subst (λ own. IsGone p rows own told (shown_row_at rows l.number)) (sym shown)
+            (gone_grown p columns inputs rows first told f (rows_left start) (rows_left more) (shown_row_at rows l.number) (shown_row_at rows l.number) gone),
       )
 
   -- ---- rows replaced one after another
@@ -237,7 +237,7 @@ module _ (p columns inputs : ℕ) (rows : List RowShown) where
   pub rest_next :
       (own : List RowShown) (told : List Told) (lost : List Lost) (i : ℕ) (d : Lost) (r : Option RowShown) (rests rests' : List (Option RowShown))
       → i < length lost → rests ≡ r ∷ rests' → AreRests p columns inputs rows own told (drop i lost) rests
-      → IsRowRestOrGone p columns inputs rows own told (row_at rows (get_or lost i d).number) r × AreRests p columns inputs rows own told (drop (i + 1) lost) rests'
+      → IsRowRestOrGone p columns inputs rows own told (shown_row_at rows (get_or lost i d).number) r × AreRests p columns inputs rows own told (drop (i + 1) lost) rests'
   rest_next own told lost i d r rests rests' lt e h =
       subst₂ (λ ls rs. AreRests p columns inputs rows own told ls rs) (drop_more lost i d lt) e h
 

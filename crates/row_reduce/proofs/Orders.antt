@@ -8,17 +8,17 @@ use Rattle.formal_sums.specs.FormalSums.{Key}
 use Rattle.term_lists.proofs.Gathers.{Each_permutation}
 use Rattle.row_laws.proofs.RowSpans.{IsInSpan_itself, IsInSpan_through}
 use Rattle.row_laws.specs.Rows.{IsInSpan}
-use Rattle.row_matrix.specs.Rows.{RowShown, first_column, row_sum}
-use Rattle.dense_reduction.specs.Pivots.{no_row, row_at, row_vectors}
+use Rattle.row_matrix.specs.Rows.{RowShown, first_column, no_row, row_sum, shown_row_at}
+use Rattle.dense_reduction.specs.Pivots.{row_vectors}
 use Rattle.row_reduce.specs.Echelons.{IsEchelonOf}
 
 -- a row of the one list is a row of the other
-row_moved : (A B : List RowShown) → IsPermutation A B → (i : ℕ) → i < length A → (j : ℕ) × (j < length B) × (row_at B j ≡ row_at A i)
+row_moved : (A B : List RowShown) → IsPermutation A B → (i : ℕ) → i < length A → (j : ℕ) × (j < length B) × (shown_row_at B j ≡ shown_row_at A i)
 row_moved A B h i lt =
-    let there = Contains-permutation A B (row_at A i) h (Contains-get_or A i no_row lt) in
-    (there.0, there.1, get_or_default B there.0 no_row (row_at A i) there.1 ∙ there.2)
+    let there = Contains-permutation A B (shown_row_at A i) h (Contains-get_or A i no_row lt) in
+    (there.0, there.1, get_or_default B there.0 no_row (shown_row_at A i) there.1 ∙ there.2)
 
-pub vector_at : {n : ℕ} (key : ℕ → Key n) (A : List RowShown) (i : ℕ) → i < length A → get_or (row_vectors key A) i [] ≡ row_sum key (row_at A i).entries
+pub vector_at : {n : ℕ} (key : ℕ → Key n) (A : List RowShown) (i : ℕ) → i < length A → get_or (row_vectors key A) i [] ≡ row_sum key (shown_row_at A i).entries
 vector_at key A i lt = get_or-map (λ (x : RowShown). row_sum key x.entries) A i no_row [] lt
 
 -- an echelon form of rows is one of them in another order

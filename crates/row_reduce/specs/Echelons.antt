@@ -6,8 +6,8 @@ use Rattle.std.specs.List.Sorted.{IsPermutation}
 use Rattle.formal_sums.specs.FormalSums.{Each, FormalSum, Key}
 use Rattle.pivot_table.specs.Law.{LeadsFit}
 use Rattle.row_laws.specs.Rows.{IsInSpan}
-use Rattle.row_matrix.specs.Rows.{IsRow, RowShown}
-use Rattle.dense_reduction.specs.Pivots.{lead_column, row_at, row_vectors}
+use Rattle.row_matrix.specs.Rows.{IsRow, RowShown, shown_row_at}
+use Rattle.dense_reduction.specs.Pivots.{lead_column, row_vectors}
 use Rattle.dense_reduction.specs.Underway.{AreRowsCombined, IsSpanned}
 use Rattle.dense_reduction.specs.Words.{AreRowsReady, WordNames, named}
 use Rattle.dense_reduction.specs.declared.lefts.Left.{Left}
@@ -40,7 +40,7 @@ pub record AreFrom (p : ℕ) (M rows : List RowShown) (held : List (Option ℕ))
   pub leads :
       (i : ℕ) → i < length M
       → ((k : ℕ) × WordNames held (lead_column M i) k) ⊎ (Contains pending i × (lead_column rows i ≡ lead_column M i))
-  pub inside : Each (IsSpanned p (named rows held ++ map (row_at rows) pending)) M
+  pub inside : Each (IsSpanned p (named rows held ++ map (shown_row_at rows) pending)) M
   pub outside : Each (IsSpanned p M) rows
   pub combined : (n : ℕ) (F : List (FormalSum n)) (key : ℕ → Key n) → AreRowsCombined p F key M → AreRowsCombined p F key rows
 

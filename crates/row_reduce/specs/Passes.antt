@@ -5,8 +5,8 @@ use Rattle.std.specs.List.Sorted.{IsPermutation}
 use Rattle.formal_sums.specs.FormalSums.{Each, FormalSum, Key}
 use Rattle.pivot_table.specs.Law.{LeadsFit}
 use Rattle.pivot_table.specs.declared.law.Entry.{Entry as Told}
-use Rattle.row_matrix.specs.Rows.{IsRow, RowShown, first_column}
-use Rattle.dense_reduction.specs.Pivots.{lead_column, row_at}
+use Rattle.row_matrix.specs.Rows.{IsRow, RowShown, first_column, shown_row_at}
+use Rattle.dense_reduction.specs.Pivots.{lead_column}
 use Rattle.dense_reduction.specs.Rests.{rows_left}
 use Rattle.dense_reduction.specs.Underway.{AreRowsCombined, IsSpanned}
 use Rattle.dense_reduction.specs.Words.{AreAsTold, WordNames, row_leads_of, named}
@@ -32,7 +32,7 @@ pub record AreHelped (p columns inputs : ℕ) (rows : List RowShown) (mine : Lis
   pub replaced : (words : List (Option ℕ)) → AreAsTold words told → Each (IsLeftOf rows words) left
   pub claimed : (words : List (Option ℕ)) → AreAsTold words told → Each (λ m. (k : ℕ) × WordNames words (lead_column rows m) k) mine
   pub inside :
-      (words : List (Option ℕ)) → AreAsTold words told → Each (λ m. IsSpanned p (named rows words ++ rows_left left) (row_at rows m)) mine
+      (words : List (Option ℕ)) → AreAsTold words told → Each (λ m. IsSpanned p (named rows words ++ rows_left left) (shown_row_at rows m)) mine
   pub outside : Each (IsSpanned p rows) (rows_left left)
   pub combined : (n : ℕ) (F : List (FormalSum n)) (key : ℕ → Key n) → AreRowsCombined p F key rows → AreRowsCombined p F key (rows_left left)
 
@@ -48,6 +48,6 @@ pub record IsPass
   pub split : IsPermutation pending (places left ++ gone)
   pub replaced : Each (IsLeftOf rows words) left
   pub claimed : Each (λ m. (k : ℕ) × WordNames words (lead_column rows m) k) pending
-  pub inside : Each (λ m. IsSpanned p (named rows words ++ rows_left left) (row_at rows m)) pending
+  pub inside : Each (λ m. IsSpanned p (named rows words ++ rows_left left) (shown_row_at rows m)) pending
   pub outside : Each (IsSpanned p rows) (rows_left left)
   pub combined : (n : ℕ) (F : List (FormalSum n)) (key : ℕ → Key n) → AreRowsCombined p F key rows → AreRowsCombined p F key (rows_left left)

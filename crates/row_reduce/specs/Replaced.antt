@@ -1,8 +1,7 @@
 -- Rows that lost their columns, each gone or replaced by what is left of it
 use Rattle.std.specs.Prelude.{List, [], ℕ, ◌++◌, ◌∷◌, ◌≡◌, ◌⊎◌}
 use Rattle.pivot_table.specs.declared.law.Entry.{Entry as Told}
-use Rattle.row_matrix.specs.Rows.{RowShown, first_column}
-use Rattle.dense_reduction.specs.Pivots.{row_at}
+use Rattle.row_matrix.specs.Rows.{RowShown, first_column, shown_row_at}
 use Rattle.dense_reduction.specs.Rests.{IsGone, IsRowLeft, IsRestFrom, rows_left}
 use Rattle.dense_reduction.specs.declared.lefts.Left.{Left}
 use Rattle.dense_reduction.specs.declared.lefts.Lost.{Lost}
@@ -10,9 +9,9 @@ use Rattle.dense_reduction.specs.declared.lefts.Lost.{Lost}
 -- new is old where the row is gone, and else old and what is left in its place
 abbrev pub IsReplaced : (p columns inputs : ℕ) → List RowShown → List Told → Lost → List Left → List Left → Type 0
 IsReplaced p columns inputs rows told l old new =
-    ((new ≡ old) × IsGone p rows (rows_left old) told (row_at rows l.number))
+    ((new ≡ old) × IsGone p rows (rows_left old) told (shown_row_at rows l.number))
     ⊎ ((r : RowShown) × (new ≡ old ++ record { number = l.number; row = r } ∷ [])
-    × IsRowLeft p columns inputs rows (rows_left old) told (row_at rows l.number) r)
+    × IsRowLeft p columns inputs rows (rows_left old) told (shown_row_at rows l.number) r)
 
 -- r is left of the row, with no higher lead
 abbrev pub IsLowered : (p columns inputs : ℕ) → List RowShown → List RowShown → List Told → RowShown → RowShown → Type 0

@@ -14,8 +14,8 @@ use Rattle.atomic_table.proofs.Lists.{at_set, set_here, set_else, at_longer}
 use Rattle.ruled_lock.specs.declared.law.Old.{Old}
 use Rattle.ruled_lock.specs.declared.law.View.{View}
 use Rattle.ruled_lock.specs.Events.{calls_by, StartsWith}
-use Rattle.ruled_lock.specs.Law.{Owns, OwnsOld, Knows, LockKept, opener, spent, parted, newcomer, old_of, joined}
-use Rattle.ruled_lock.specs.Plays.{Sat, held, freed, seeing, added, Sees, Won, tried, carried, appended, released, OldSees, looked, AddsEvent, Holds, AllBack, Tallied}
+use Rattle.ruled_lock.specs.Law.{Owns, OwnsOld, Knows, LockKept, opener, spent, parted, newcomer, old_of, joined_views}
+use Rattle.ruled_lock.specs.Plays.{LockSeat, held, freed, seeing, added, Sees, Won, tried, carried, appended, released, OldSees, looked, AddsEvent, Holds, AllBack, Tallied}
 use Rattle.ruled_lock.proofs.Hands.{one_hand}
 use Rattle.ruled_lock.proofs.Lists.{within, drop_front, calls_by-other, calls_by-own, starts_self, starts_longer, at_snoc_place, all_without, range_all}
 
@@ -27,7 +27,7 @@ module _ {C N B : Type 0} (base_of : C → B) (log_of : C → List N) (by : N �
   St = State (Option C) V
 
   abbrev M : Type 0
-  M = Sat C N B
+  M = LockSeat C N B
 
   abbrev Rule : St → Type 0
   Rule = LockKept base_of log_of by workers base
@@ -291,9 +291,9 @@ module _ {C N B : Type 0} (base_of : C → B) (log_of : C → List N) (by : N �
             (at_snoc_place vs right u j there);
       }
 
-  pub joins : (id : ℕ) (v : V) (other : ℕ) (w : V) → v.live ≡ true → v.turn ≡ false → w.live ≡ true → w.turn ≡ false → Joins Rule id v other w (joined v w) spent
+  pub joins : (id : ℕ) (v : V) (other : ℕ) (w : V) → v.live ≡ true → v.turn ≡ false → w.live ≡ true → w.turn ≡ false → Joins Rule id v other w (joined_views v w) spent
   joins id v other w live idle live' idle' s r at apart there =
-      let both : V = joined v w in let vs : List V = set s.views id both in
+      let both : V = joined_views v w in let vs : List V = set s.views id both in
       let there' : get_elem? s.views other ≡ maybe.some w = sym (set_else s.views id other both apart) ∙ there in
       let k = r.each_seat id v at live in let kw = r.each_seat other w there' live' in
       let seat' : ℕ → ℕ = λ y. swapped (λ z. z) other id (r.seat y) in
@@ -417,7 +417,7 @@ module _ {N B : Type 0} (by : N → ℕ) where
 
 module _ {C N B : Type 0} (base_of : C → B) (log_of : C → List N) (by : N → ℕ) where
   -- what the winner of the turn has in hand
-  pub takes_it : (m m' : Sat C N B) (x : C) → Won base_of log_of by m m' → m'.1 ≡ (0, Some x) ∷ [] → (m'.0 ≡ held m.0 (log_of x)) × Sees by m.0 (log_of x) × (Some (base_of x) ≡ m.0.base)
+  pub takes_it : (m m' : LockSeat C N B) (x : C) → Won base_of log_of by m m' → m'.1 ≡ (0, Some x) ∷ [] → (m'.0 ≡ held m.0 (log_of x)) × Sees by m.0 (log_of x) × (Some (base_of x) ≡ m.0.base)
   takes_it m m' x (b, hand, view, sees, same) e = let both : Some b ≡ Some x = one_hand m'.1 0 (Some b) (Some x) hand e in let is : b ≡ x = cc in
       subst (λ (y : C). (m'.0 ≡ held m.0 (log_of y)) × Sees by m.0 (log_of y) × (Some (base_of y) ≡ m.0.base)) is (view, sees, same)
 

@@ -84,5 +84,5 @@ module _ {N B : Type 0} where
   old_of v = record { worker = v.worker; seen = v.seen; mine = v.mine }
 
   -- the first, with the numbers of the second
-  abbrev pub joined : View N B → View N B → View N B
-  joined v w = record v { give = v.give ++ w.give; olds = v.olds ++ (old_of w ∷ w.olds) }
+  abbrev pub joined_views : View N B → View N B → View N B
+  joined_views v w = record v { give = v.give ++ w.give; olds = v.olds ++ (old_of w ∷ w.olds) }

@@ -9,8 +9,8 @@ use Rattle.ruled_lock.specs.declared.law.View.{View}
 use Rattle.ruled_lock.specs.Events.{calls_by, StartsWith}
 
 -- what a seat knows, and what it has in its hand
-abbrev pub Sat : Type 0 → Type 0 → Type 0 → Type 0
-Sat C N B = Me (Option C) (View N B)
+abbrev pub LockSeat : Type 0 → Type 0 → Type 0 → Type 0
+LockSeat C N B = Me (Option C) (View N B)
 
 module _ {N B : Type 0} where
   -- the view with the turn, which has seen this history
@@ -46,11 +46,11 @@ module _ {C N : Type 0} where
 
 module _ {C N B : Type 0} where
   -- after the number of events was set: the seat has added the event of the core in its hand
-  abbrev pub appended : (C → List N) → Step (Option C) → Sat C N B → ℕ → Sat C N B → Type 0
+  abbrev pub appended : (C → List N) → Step (Option C) → LockSeat C N B → ℕ → LockSeat C N B → Type 0
   appended log_of st m r m' = m' ≡ (added m.0 (carried log_of m.0.seen m.1), m.1)
 
   -- after the turn was given back, with the core
-  abbrev pub released : Step (Option C) → Sat C N B → ℕ → Sat C N B → Type 0
+  abbrev pub released : Step (Option C) → LockSeat C N B → ℕ → LockSeat C N B → Type 0
   released st m r m' = m' ≡ (freed m.0, rest m.1)
 
   -- a seat of this table that has no turn
@@ -94,15 +94,15 @@ module _ {N B : Type 0} (by : N → ℕ) where
 
 module _ {C N B : Type 0} (base_of : C → B) (log_of : C → List N) (by : N → ℕ) where
   -- the turn was won: the core is in the hand, with the whole history, which begins with all that the seat had seen
-  abbrev pub Won : Sat C N B → Sat C N B → Type 0
+  abbrev pub Won : LockSeat C N B → LockSeat C N B → Type 0
   Won m m' = (b : C) × (m'.1 ≡ (0, Some b) ∷ []) × (m'.0 ≡ held m.0 (log_of b)) × Sees by m.0 (log_of b) × (Some (base_of b) ≡ m.0.base)
 
   -- after a try for the turn
-  abbrev pub tried : Step (Option C) → Sat C N B → ℕ → Sat C N B → Type 0
+  abbrev pub tried : Step (Option C) → LockSeat C N B → ℕ → LockSeat C N B → Type 0
   tried st m r m' = (r ≡ 0 → Won m m') × (r ≢ 0 → m' ≡ m)
 
 -- after a look at the number of events
-abbrev pub looked : {C N B : Type 0} (by : N → ℕ) → Step (Option C) → Sat C N B → ℕ → Sat C N B → Type 0
+abbrev pub looked : {C N B : Type 0} (by : N → ℕ) → Step (Option C) → LockSeat C N B → ℕ → LockSeat C N B → Type 0
 looked by st m r m' = (m' ≡ (seeing m.0 m'.0.seen, m.1)) × (length m'.0.seen ≡ r) × Sees by m.0 m'.0.seen × All (OldSees by m'.0.seen) m.0.olds
 
 -- each worker's number is with this seat

@@ -104,9 +104,9 @@ impl<N, B, K: Number> Split<View<N, B>> for Cut<K> {
 pub(crate) struct Glue;
 
 impl<N, B> Join<View<N, B>> for Glue {
-    ghost use Rattle.ruled_lock.specs.Law.{joined, spent};
+    ghost use Rattle.ruled_lock.specs.Law.{joined_views, spent};
 
-    ghost both = { joined };
+    ghost both = { joined_views };
 
     ghost spent = { spent };
 }

@@ -1,7 +1,7 @@
 //! The lock and its seats.
 ghost use Rattle.std.specs.Prelude.{◌≡◌, ℕ, ◌<◌, [], ◌∷◌, ◌++◌, length, Some, None, IfOk, IfErr, All};
 ghost use Rattle.std.specs.List.{Contains};
-ghost use Rattle.ruled_lock.specs.Law.{opener, parted, newcomer, joined};
+ghost use Rattle.ruled_lock.specs.Law.{opener, parted, newcomer, joined_views};
 ghost use Rattle.ruled_lock.specs.Plays.{Sees, IsIdle, IsHolding, Looks, AllBack, Tallied, OldSees, held, freed, added};
 
 use crate::core_trait::Core;
@@ -173,7 +173,7 @@ impl<C: Core<N, B>, N, B> Lock<C, N, B> {
         requires seat { IsIdle self.now.table.shared.table_id (C.base self.now.table.shared.key.value) seat.old.place }
         requires other { IsIdle self.now.table.shared.table_id (C.base self.now.table.shared.key.value) other.place }
         ensures { IsIdle self.now.table.shared.table_id (C.base self.now.table.shared.key.value) seat.new.place
-            × (seat.new.place.me.0 ≡ joined seat.old.place.me.0 other.place.me.0) }
+            × (seat.new.place.me.0 ≡ joined_views seat.old.place.me.0 other.place.me.0) }
     {
         let WorkerSeat { worker: _, place } = other;
         self.table.shared.join_seat::<Glue>(&mut seat.place, place);

@@ -10,7 +10,7 @@ use Rattle.basis_steps.specs.Trails.{IsHistoryTrail}
 use Rattle.basis_core.specs.declared.stop.StopReason.TheVariants as reasons
 use Rattle.basis_core.specs.Answers.{IsRunTrail}
 use Rattle.basis_core.specs.Inside.{IsStopOver}
-use Rattle.basis_core.specs.Outcomes.{product_of, products_of}
+use Rattle.basis_core.specs.Outcomes.{indexed_product_of, indexed_products_of}
 use Rattle.basis_core.specs.Shown.{Shown}
 use Rattle.basis_core.specs.Stops.{earlier_products, start_pair, stop_of, trail_of, trail_over}
 use Rattle.basis_core.specs.Views.{run_of, state_of, variables_of}
@@ -24,14 +24,14 @@ module _ (t u : KeptTrail) (same : IsSameTrail t u) where
     members = sums_of n (same.members i);
     start = start_pair (same.start i);
     earlier = [];
-    last = product_of n no_product;
+    last = indexed_product_of n no_product;
     monomial = exponents_of n (same.last i).exponents;
   }
   trail_over_same n (first ∷ later) = λ i. record {
     members = sums_of n (same.members i);
     start = start_pair (same.start i);
-    earlier = products_of n (earlier_products first later);
-    last = product_of n (last_product first later);
+    earlier = indexed_products_of n (earlier_products first later);
+    last = indexed_product_of n (last_product first later);
     monomial = exponents_of n (same.last i).exponents;
   }
 

@@ -10,9 +10,9 @@ use Rattle.member_products.specs.declared.member.Reduct.{Reduct as CodeReduct}
 use Rattle.pair_criteria.specs.declared.pair.Pair.{Pair as CodePair}
 use Rattle.basis_steps.specs.Criteria.{IsPair}
 use Rattle.basis_steps.specs.States.{vectors}
-use Rattle.basis_core.specs.Jobs.{IsJob, JobShown, pair_of, pairs_of}
-use Rattle.basis_core.specs.Members.{IsRunRow, members_of, row_of, rows_of, setting_of}
-use Rattle.basis_core.specs.Outcomes.{IsOutcomeIn, product_of, products_of}
+use Rattle.basis_core.specs.Jobs.{IsJob, JobShown, index_pair_of, pairs_of}
+use Rattle.basis_core.specs.Members.{IsRunRow, members_of, reduct_row_of, reduct_rows_of, setting_of}
+use Rattle.basis_core.specs.Outcomes.{IsOutcomeIn, indexed_product_of, indexed_products_of}
 use Rattle.s_vectors.proofs.JobTrails.{job_pair}
 use Rattle.s_vectors.proofs.Joining.{solved_joined, solved_outcome}
 use Rattle.s_vectors.proofs.TopParts.{shared_lawful}
@@ -37,29 +37,29 @@ pub solved_step :
     (j : JobShown) (i : ℕ) (x : CodePair) (rows more new_rows : List CodeReduct) (a b new_products : List KeptProduct)
     → IsJob (variables j.shared.ring) j → i < length j.pairs → x ≡ get_or j.pairs i x → new_rows ≡ rows ++ more → new_products ≡ a ++ b
     → IsSolved (setting_of (variables j.shared.ring) j.shared) (vectors (members_of (variables j.shared.ring) j.members)) (pairs_of (take i j.pairs))
-    (rows_of (variables j.shared.ring) rows) (products_of (variables j.shared.ring) a)
-    → IsSolved (setting_of (variables j.shared.ring) j.shared) (vectors (members_of (variables j.shared.ring) j.members)) (pair_of x ∷ [])
-    (rows_of (variables j.shared.ring) more) (products_of (variables j.shared.ring) b)
+    (reduct_rows_of (variables j.shared.ring) rows) (indexed_products_of (variables j.shared.ring) a)
+    → IsSolved (setting_of (variables j.shared.ring) j.shared) (vectors (members_of (variables j.shared.ring) j.members)) (index_pair_of x ∷ [])
+    (reduct_rows_of (variables j.shared.ring) more) (indexed_products_of (variables j.shared.ring) b)
     → IsSolved (setting_of (variables j.shared.ring) j.shared) (vectors (members_of (variables j.shared.ring) j.members)) (pairs_of (take (i + 1) j.pairs))
-    (rows_of (variables j.shared.ring) new_rows) (products_of (variables j.shared.ring) new_products)
+    (reduct_rows_of (variables j.shared.ring) new_rows) (indexed_products_of (variables j.shared.ring) new_products)
 solved_step j i x rows more new_rows a b new_products h lt e e_rows e_products before one =
     let n = variables j.shared.ring in
     let S = setting_of n j.shared in
     let G = vectors (members_of n j.members) in
-    let e_pairs : pairs_of (take (i + 1) j.pairs) ≡ pairs_of (take i j.pairs) ++ pair_of x ∷ [] = ap pairs_of (take_item j.pairs i x lt e) ∙ map-append (λ y. pair_of y) (take i j.pairs) (x ∷ []) in
-    let r_is : rows_of n new_rows ≡ rows_of n rows ++ rows_of n more = ap (rows_of n) e_rows ∙ map-append (λ row. row_of n row) rows more in
-    let p_is : products_of n new_products ≡ products_of n a ++ products_of n b = ap (products_of n) e_products ∙ map-append (λ t. product_of n t) a b in
-    subst (λ z. IsSolved S G z (rows_of n new_rows) (products_of n new_products)) (sym e_pairs)
-    (subst (λ z. IsSolved S G (pairs_of (take i j.pairs) ++ pair_of x ∷ []) z (products_of n new_products)) (sym r_is)
-    (subst (λ z. IsSolved S G (pairs_of (take i j.pairs) ++ pair_of x ∷ []) (rows_of n rows ++ rows_of n more) z) (sym p_is)
-    (solved_joined S (shared_lawful n j.shared) G (pairs_of (take i j.pairs)) (pair_of x ∷ []) (rows_of n rows) (rows_of n more) (products_of n a) (products_of n b)
+    let e_pairs : pairs_of (take (i + 1) j.pairs) ≡ pairs_of (take i j.pairs) ++ index_pair_of x ∷ [] = ap pairs_of (take_item j.pairs i x lt e) ∙ map-append (λ y. index_pair_of y) (take i j.pairs) (x ∷ []) in
+    let r_is : reduct_rows_of n new_rows ≡ reduct_rows_of n rows ++ reduct_rows_of n more = ap (reduct_rows_of n) e_rows ∙ map-append (λ row. reduct_row_of n row) rows more in
+    let p_is : indexed_products_of n new_products ≡ indexed_products_of n a ++ indexed_products_of n b = ap (indexed_products_of n) e_products ∙ map-append (λ t. indexed_product_of n t) a b in
+    subst (λ z. IsSolved S G z (reduct_rows_of n new_rows) (indexed_products_of n new_products)) (sym e_pairs)
+    (subst (λ z. IsSolved S G (pairs_of (take i j.pairs) ++ index_pair_of x ∷ []) z (indexed_products_of n new_products)) (sym r_is)
+    (subst (λ z. IsSolved S G (pairs_of (take i j.pairs) ++ index_pair_of x ∷ []) (reduct_rows_of n rows ++ reduct_rows_of n more) z) (sym p_is)
+    (solved_joined S (shared_lawful n j.shared) G (pairs_of (take i j.pairs)) (index_pair_of x ∷ []) (reduct_rows_of n rows) (reduct_rows_of n more) (indexed_products_of n a) (indexed_products_of n b)
     (pairs_take i j.pairs (IsPair G) h.real) ((job_pair j i x h lt e).real, tt) before one)))
 
 pub solved_job :
     (j : JobShown) (i : ℕ) (rows : List CodeReduct) (products : List KeptProduct)
     → IsJob (variables j.shared.ring) j → length j.pairs ≤ i → Each (IsRunRow j.shared (length j.members)) rows → Each (λ t. IsWeighed (variables j.shared.ring) j.shared.ring.weights t.1) products
     → IsSolved (setting_of (variables j.shared.ring) j.shared) (vectors (members_of (variables j.shared.ring) j.members)) (pairs_of (take i j.pairs))
-    (rows_of (variables j.shared.ring) rows) (products_of (variables j.shared.ring) products)
+    (reduct_rows_of (variables j.shared.ring) rows) (indexed_products_of (variables j.shared.ring) products)
     → IsOutcomeIn (variables j.shared.ring) (record { job = j; rows = rows; products = products })
 solved_job j i rows products h le over weighed s =
     let n = variables j.shared.ring in
@@ -67,7 +67,7 @@ solved_job j i rows products h le over weighed s =
     record {
       rows = over;
       weighed = weighed;
-      outcome = solved_outcome (setting_of n j.shared) (shared_lawful n j.shared) (vectors (members_of n j.members)) (pairs_of j.pairs) (rows_of n rows) (products_of n products)
-          (subst (λ z. 0 < z) (sym (length-map j.pairs (λ y. pair_of y))) some) h.real
-          (subst (λ z. IsSolved (setting_of n j.shared) (vectors (members_of n j.members)) (pairs_of z) (rows_of n rows) (products_of n products)) (take_whole i j.pairs le) s);
+      outcome = solved_outcome (setting_of n j.shared) (shared_lawful n j.shared) (vectors (members_of n j.members)) (pairs_of j.pairs) (reduct_rows_of n rows) (indexed_products_of n products)
+          (subst (λ z. 0 < z) (sym (length-map j.pairs (λ y. index_pair_of y))) some) h.real
+          (subst (λ z. IsSolved (setting_of n j.shared) (vectors (members_of n j.members)) (pairs_of z) (reduct_rows_of n rows) (indexed_products_of n products)) (take_whole i j.pairs le) s);
     }

@@ -23,9 +23,9 @@ use Rattle.basis_steps.specs.Outcomes.{AreJobProducts}
 use Rattle.basis_steps.specs.Pairs.{Pair, count}
 use Rattle.basis_steps.specs.States.{Trail, vectors}
 use Rattle.basis_core.proofs.Tracking.{vectors_over}
-use Rattle.basis_core.specs.Jobs.{HasLcmOfMembers, IsJob, JobShown, pair_of, pairs_of}
+use Rattle.basis_core.specs.Jobs.{HasLcmOfMembers, IsJob, JobShown, index_pair_of, pairs_of}
 use Rattle.basis_core.specs.Members.{IsMemberShown, MembersShown, members_of, setting_of}
-use Rattle.basis_core.specs.Outcomes.{product_of, products_of}
+use Rattle.basis_core.specs.Outcomes.{indexed_product_of, indexed_products_of}
 use Rattle.basis_core.specs.Rows.{vectors_in}
 use Rattle.basis_core.specs.Stops.{IsPairTrail, IsTrailBy, earlier_products, start_pair, trail_by, trail_members, trail_over}
 use Rattle.s_vectors.proofs.Lists.{vectors_are}
@@ -36,9 +36,9 @@ use Rattle.s_vectors.specs.PairProducts.{ArePairProducts, IsPairChain}
 use Rattle.basis_core.proofs.Tracing.{pair_counted}
 
 -- all products, the last one apart
-steps_apart : (n : ℕ) (first : KeptProduct) (later : List KeptProduct) → products_of n (earlier_products first later) ++ product_of n (last_product first later) ∷ [] ≡ products_of n (first ∷ later)
+steps_apart : (n : ℕ) (first : KeptProduct) (later : List KeptProduct) → indexed_products_of n (earlier_products first later) ++ indexed_product_of n (last_product first later) ∷ [] ≡ indexed_products_of n (first ∷ later)
 steps_apart n first [] = refl
-steps_apart n first (s ∷ later) = ap (λ l. product_of n first ∷ l) (steps_apart n s later)
+steps_apart n first (s ∷ later) = ap (λ l. indexed_product_of n first ∷ l) (steps_apart n s later)
 
 -- the key of a term
 monomial_key : (n : ℕ) (v : List (CodeKey × ℕ)) (t : Monomial) → HasMonomial v t → (i : ℕ) × HasKey (sum_of n v) (i, exponents_of n t.exponents)
@@ -72,7 +72,7 @@ module _ (m : MembersShown) (x : CodePair) (of : AreOfPair m x) (tracked : Each 
     (chain : IsPairChain (variables m.shared.ring) m.shared.ring.weights m.list (key_of (variables m.shared.ring) x.lcm) t.products.items t.last)
     (ring_is : t.ring ≡ m.shared.ring) (rank_is : t.rank ≡ m.shared.rank) (generators_are : t.generators ≡ m.shared.generators)
     (below_none : t.below.items ≡ []) (start_is : t.start ≡ starts.Pair x.i x.j) (vector_is : t.vector ≡ [])
-    (members_are : t.members ≡ vectors_in m.list) (taken : 0 < count (pair_of x) pairs)
+    (members_are : t.members ≡ vectors_in m.list) (taken : 0 < count (index_pair_of x) pairs)
   where
     -- the monomial that is too great is one of the ring
     last_weighed : IsWeighed (variables m.shared.ring) m.shared.ring.weights t.last
@@ -153,17 +153,17 @@ module _ (m : MembersShown) (x : CodePair) (of : AreOfPair m x) (tracked : Each 
         let p = m.shared.ring.modulus.value in
         let pair : ArePairProducts n m.shared.ring.weights (vectors_in m.list) (key_of n x.lcm) (first ∷ later) = subst (ArePairProducts n m.shared.ring.weights (vectors_in m.list) (key_of n x.lcm)) e chain.pair in
         let last : last_product first later ≡ chain.at_end = ends_with chain.front chain.at_end first later (sym e ∙ chain.split) in
-        let lcm_is : key_of n x.lcm ≡ lcm_of (sums_of n (vectors_in m.list)) (pair_of x) = subst (λ G. key_of n x.lcm ≡ lcm_of G (pair_of x)) (vectors_are n m.list) of.lcm.lcm in
+        let lcm_is : key_of n x.lcm ≡ lcm_of (sums_of n (vectors_in m.list)) (index_pair_of x) = subst (λ G. key_of n x.lcm ≡ lcm_of G (index_pair_of x)) (vectors_are n m.list) of.lcm.lcm in
         let high = chain.too_great in
-        let start : start_pair t.start ≡ pair_of x = ap start_pair start_is in
+        let start : start_pair t.start ≡ index_pair_of x = ap start_pair start_is in
         record {
           members = members_same;
           start = subst (λ y. 0 < count y pairs) (sym start) taken;
           real = subst (IsPair (vectors (members_of n m.list))) (sym start) of.real;
           products =
               subst (AreJobProducts p (vectors (members_of n m.list)) (start_pair t.start ∷ [])) (sym (steps_apart n first later))
-              (subst₂ (λ G y. AreJobProducts p G (y ∷ []) (products_of n (first ∷ later))) (sym (vectors_are n m.list)) (sym start)
-              (job_steps (setting_of n m.shared) (shared_lawful n m.shared) (vectors_in m.list) (vectors_over m.shared m.list tracked) (pair_of x) (key_of n x.lcm) (first ∷ later) lcm_is pair));
+              (subst₂ (λ G y. AreJobProducts p G (y ∷ []) (indexed_products_of n (first ∷ later))) (sym (vectors_are n m.list)) (sym start)
+              (job_steps (setting_of n m.shared) (shared_lawful n m.shared) (vectors_in m.list) (vectors_over m.shared m.list tracked) (index_pair_of x) (key_of n x.lcm) (first ∷ later) lcm_is pair));
           monomial =
               subst (λ (s : KeptProduct). (i : ℕ) × Occurs p (get_or (vectors (members_of n m.list)) s.0 []) (i, exponents_of n t.last.exponents)) (sym last) last_occurs;
           above =
@@ -192,9 +192,9 @@ job_pair j i x h lt e = record {
     pair_real :
         (xs : List CodePair) (k : ℕ) (y : CodePair)
         → Each (IsPair (vectors (members_of (variables j.shared.ring) j.members))) (pairs_of xs) → k < length xs → y ≡ get_or xs k y
-        → IsPair (vectors (members_of (variables j.shared.ring) j.members)) (pair_of y)
+        → IsPair (vectors (members_of (variables j.shared.ring) j.members)) (index_pair_of y)
     pair_real [] k y r l q = absurd (omega arith)
-    pair_real (z ∷ xs) zero y r l q = subst (λ w. IsPair (vectors (members_of (variables j.shared.ring) j.members)) (pair_of w)) (sym q) r.0
+    pair_real (z ∷ xs) zero y r l q = subst (λ w. IsPair (vectors (members_of (variables j.shared.ring) j.members)) (index_pair_of w)) (sym q) r.0
     pair_real (z ∷ xs) (suc k) y r l q = pair_real xs k y r.1 (omega arith) q
 
 -- the chain of a pair of the job

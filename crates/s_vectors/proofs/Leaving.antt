@@ -22,7 +22,7 @@ use Rattle.term_lists.specs.Rings.{ring_comparison, variables}
 use Rattle.term_lists.specs.Vectors.{IsVectorOver, StandsFor, key_of, sum_of, sums_of}
 use Rattle.term_lists.specs.declared.key.Key.{Key as CodeKey}
 use Rattle.term_lists.specs.declared.ring.Ring.{Ring}
-use Rattle.module_vectors.specs.Trails.{AreMet, HasKey, IsMet, product_lead}
+use Rattle.module_vectors.specs.Trails.{AreMet, HasKey, IsMet, kept_product_lead}
 use Rattle.pair_criteria.specs.declared.pair.Pair.{Pair as CodePair}
 use Rattle.vector_division.proofs.Members.{sums_at}
 use Rattle.vector_division.proofs.Occurring.{at_key, occurring}
@@ -31,7 +31,7 @@ use Rattle.vector_division.specs.declared.reduction.ScaledProduct.{ScaledProduct
 use Rattle.basis_steps.proofs.Sparing.{monic_list}
 use Rattle.basis_steps.specs.Criteria.{lcm_of}
 use Rattle.basis_steps.specs.Divisions.{IsMonicMember}
-use Rattle.basis_core.specs.Jobs.{pair_of}
+use Rattle.basis_core.specs.Jobs.{index_pair_of}
 use Rattle.basis_core.specs.Members.{MembersShown, setting_of}
 use Rattle.basis_core.specs.Rows.{vectors_in}
 use Rattle.s_vectors.proofs.Linking.{key_of_parts, pair_more, quotients_met, steps_through}
@@ -90,7 +90,7 @@ module _ {n : ℕ} (S : Setting n) (lawful : IsLawful S) (G : List (FormalSum n)
 module _ (m : MembersShown) (x : CodePair) (of : AreOfPair m x) where
   -- the lcm, by the members' leads
   key_is : key_of (variables m.shared.ring) x.lcm ≡ key_lcm (leads (sums_of (variables m.shared.ring) (vectors_in m.list)) x.i) (leads (sums_of (variables m.shared.ring) (vectors_in m.list)) x.j)
-  key_is = subst (λ G. key_of (variables m.shared.ring) x.lcm ≡ lcm_of G (pair_of x)) (vectors_are (variables m.shared.ring) m.list) of.lcm.lcm
+  key_is = subst (λ G. key_of (variables m.shared.ring) x.lcm ≡ lcm_of G (index_pair_of x)) (vectors_are (variables m.shared.ring) m.list) of.lcm.lcm
 
   pub monic_sums : IsMonicList (setting_of (variables m.shared.ring) m.shared) (sums_of (variables m.shared.ring) (vectors_in m.list))
   monic_sums =
@@ -228,12 +228,12 @@ module _ (m : MembersShown) (x : CodePair) (of : AreOfPair m x) where
         quotients_low [] h u = tt
         quotients_low (q ∷ ys) h u =
             let n = variables m.shared.ring in
-            let lead : place (sums_of n (vectors_in m.list)) ((q.index, exponents_of n q.monomial.exponents), q.residue) ≡ product_lead n (vectors_in m.list) (unscaled q) =
+            let lead : place (sums_of n (vectors_in m.list)) ((q.index, exponents_of n q.monomial.exponents), q.residue) ≡ kept_product_lead n (vectors_in m.list) (unscaled q) =
             ap (λ z. shift (exponents_of n q.monomial.exponents) (head_key z)) (sums_at n (vectors_in m.list) q.index) in (
               (
                 subst (λ z. q.index < z) (sym (length-map (vectors_in m.list) (λ w. sum_of (variables m.shared.ring) w))) h.0.index,
                 subst (λ z. ring_comparison m.shared.ring n z (key_of n x.lcm) ≡ Less) (sym lead)
-                    (lower_through (setting_of n m.shared) (shared_lawful n m.shared) (sums_of n (vectors_in m.list)) monic_sums (product_lead n (vectors_in m.list) (unscaled q)) (head_key (sum_of n v)) (key_of n x.lcm) u.0 (head_low some)),
+                    (lower_through (setting_of n m.shared) (shared_lawful n m.shared) (sums_of n (vectors_in m.list)) monic_sums (kept_product_lead n (vectors_in m.list) (unscaled q)) (head_key (sum_of n v)) (key_of n x.lcm) u.0 (head_low some)),
               ),
               quotients_low ys h.1 u.1,
             )

@@ -10,7 +10,7 @@ use Rattle.term_lists.proofs.Parts.{Each_split}
 use Rattle.monomial_orders.specs.Kept.{IsWeighed}
 use Rattle.term_lists.specs.Vectors.{sums_of}
 use Rattle.term_lists.specs.declared.key.Key.{Key as CodeKey}
-use Rattle.module_vectors.specs.Trails.{AreMet, HasKey, IsInProduct, IsMet, KeptProduct, product_lead}
+use Rattle.module_vectors.specs.Trails.{AreMet, HasKey, IsInProduct, IsMet, KeptProduct, kept_product_lead}
 use Rattle.vector_division.proofs.Members.{sums_at}
 use Rattle.vector_division.proofs.Occurring.{Contains_here, Contains_later, key_of_sum, scaled_key}
 use Rattle.vector_division.specs.Reductions.{AreMetFrom, cofactors_of, unscaled}
@@ -57,7 +57,7 @@ module _ (n : ℕ) (list : List (List (CodeKey × ℕ))) where
       → ((l : Key n) → HasKey v l → IsMet n [] list top l) → AreMet n v list e products → AreMet n [] list (top ++ e) products
   steps_through v top e [] f h = tt
   steps_through v top e (s ∷ products) f h = (
-    met_through v top e (product_lead n list s) f h.0,
+    met_through v top e (kept_product_lead n list s) f h.0,
     subst (λ x. AreMet n [] list x products) (sym (append_assoc top e (s ∷ []))) (steps_through v top (e ++ s ∷ []) products f h.1),
   )
 

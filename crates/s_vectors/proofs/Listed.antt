@@ -17,14 +17,14 @@ use Rattle.vector_division.specs.declared.reduction.ScaledProduct.{ScaledProduct
 use Rattle.pair_criteria.specs.declared.pair.Pair.{Pair as CodePair}
 use Rattle.basis_core.proofs.Tracking.{vectors_rank}
 use Rattle.basis_core.specs.Members.{IsMemberShown, MembersShown, Shared, setting_of}
-use Rattle.basis_core.specs.Outcomes.{product_of, products_of}
+use Rattle.basis_core.specs.Outcomes.{indexed_product_of, indexed_products_of}
 use Rattle.s_vectors.proofs.TopParts.{shared_lawful}
 use Rattle.s_vectors.specs.Divided.{IsDivided}
 use Rattle.s_vectors.specs.Parts.{IsPart}
 
-keys_are : (n : ℕ) (qs : List ScaledProduct) → map (λ t. t.0) (cofactors_of n qs) ≡ products_of n (map unscaled qs)
+keys_are : (n : ℕ) (qs : List ScaledProduct) → map (λ t. t.0) (cofactors_of n qs) ≡ indexed_products_of n (map unscaled qs)
 keys_are n [] = refl
-keys_are n (q ∷ qs) = ap (λ l. product_of n (unscaled q) ∷ l) (keys_are n qs)
+keys_are n (q ∷ qs) = ap (λ l. indexed_product_of n (unscaled q) ∷ l) (keys_are n qs)
 
 part_positions : (n : ℕ) (ws : List ℕ) (p count : ℕ) (qs : List ScaledProduct) → Each (IsPart n ws p count) qs → HasRank count (cofactors_of n qs)
 part_positions n ws p count [] h = tt
@@ -35,7 +35,7 @@ part_terms n ws p count qs h = Each_map _ _ qs (λ q i. (i.weighed, i.reduced)) 
 
 module _ (shared : Shared) (parts : List ScaledProduct) (products : List (CodeKey × ℕ)) (iv : IsVectorOf shared.ring products) (same : StandsFor shared.ring products (cofactors_of (variables shared.ring) parts)) where
   -- each of them is one of the parts', but for its coefficient
-  pub row_listed : Each (λ t. Contains (products_of (variables shared.ring) (map unscaled parts)) t.0) (sum_of (variables shared.ring) products)
+  pub row_listed : Each (λ t. Contains (indexed_products_of (variables shared.ring) (map unscaled parts)) t.0) (sum_of (variables shared.ring) products)
   row_listed =
       let n = variables shared.ring in
       Each_map _ _ (sum_of n products) (λ t h. subst (λ l. Contains l t.0) (keys_are n parts) h)

@@ -12,7 +12,7 @@ use Rattle.term_lists.specs.Vectors.{sum_of, sums_of}
 use Rattle.term_lists.specs.declared.key.Key.{Key as CodeKey}
 use Rattle.term_lists.specs.declared.stop.VectStop.TheVariants.{Degree}
 use Rattle.module_vectors.proofs.SumsOfProducts.{products_combination}
-use Rattle.module_vectors.specs.Products.{AreProducts, sum_of_products}
+use Rattle.module_vectors.specs.Products.{AreProducts, sum_of_product_list}
 use Rattle.module_vectors.specs.ProductStops.{ProductsStop}
 use Rattle.module_vectors.specs.declared.product.Product.{Product}
 use Rattle.vector_division.specs.Reductions.{cofactors_of, term_of}
@@ -43,7 +43,7 @@ module _ (list : List (List (CodeKey × ℕ))) where
   pub parts_combination :
       (n : ℕ) (ws : List ℕ) (p : ℕ) (parts : List ScaledProduct) (xs : List Product)
       → Each (IsPart n ws p (length list)) parts → AreProducts list (map term_of parts) xs
-      → sum_of_products n xs ≡ combination (sums_of n list) (cofactors_of n parts)
+      → sum_of_product_list n xs ≡ combination (sums_of n list) (cofactors_of n parts)
   parts_combination n ws p parts xs h a = products_combination list n (map term_of parts) xs (positions parts h) a ∙ ap (combination (sums_of n list)) (terms_sum n parts)
     where
       positions : (qs : List ScaledProduct) → Each (IsPart n ws p (length list)) qs → Each (λ t. t.0.position < length list) (map term_of qs)

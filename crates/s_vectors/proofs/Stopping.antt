@@ -7,7 +7,7 @@ use Rattle.term_lists.specs.Stops.{HasMonomial}
 use Rattle.term_lists.specs.Vectors.{sum_of}
 use Rattle.term_lists.specs.declared.key.Key.{Key as CodeKey}
 use Rattle.term_lists.specs.declared.ring.Ring.{Ring}
-use Rattle.module_vectors.specs.Trails.{AreMet, HasKey, IsChain, IsMet, IsTrail, KeptProduct, last_product, product_lead}
+use Rattle.module_vectors.specs.Trails.{AreMet, HasKey, IsChain, IsMet, IsTrail, KeptProduct, kept_product_lead, last_product}
 use Rattle.module_vectors.specs.declared.trail.KeptTrail.{KeptTrail}
 use Rattle.vector_division.proofs.Occurring.{at_key}
 use Rattle.vector_division.specs.Divisions.{IsDivisionTrail}
@@ -79,7 +79,7 @@ division_chain ring ms k v (first ∷ top) t products some h keys d e = go d.tra
         let sp = last_split s later in
         let met : (l : Key (variables ring)) → HasKey (sum_of (variables ring) v) l → IsMet (variables ring) [] (vectors_in ms) (first ∷ top) l =
         λ l h. at_key (λ z. IsMet (variables ring) [] (vectors_in ms) (first ∷ top) z) (sum_of (variables ring) v) l keys h in
-        let begins : HasKey (sum_of n v) (product_lead n list s) = rw (d.start, d.vector, d.members) at chain.begins in
+        let begins : HasKey (sum_of n v) (kept_product_lead n list s) = rw (d.start, d.vector, d.members) at chain.begins in
         let follow : AreMet n (sum_of n v) list (s ∷ []) later = rw (d.vector, d.members) at chain.met in
         let known : Each (λ z. z.0 < length list) (s ∷ later) = subst (λ l. Each (λ z. z.0 < length l) (s ∷ later)) d.members chain.known in
         let last : HasMonomial (get_or list (last_product s later).0 []) t.last = rw d.members at chain.last in

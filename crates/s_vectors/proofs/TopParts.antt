@@ -20,7 +20,7 @@ use Rattle.vector_division.specs.declared.reduction.ScaledProduct.{ScaledProduct
 use Rattle.basis_steps.specs.Criteria.{IsPair}
 use Rattle.basis_steps.specs.Divisions.{IsMonicMember}
 use Rattle.basis_steps.specs.States.{vectors}
-use Rattle.basis_core.specs.Jobs.{HasLcmOfMembers, pair_of}
+use Rattle.basis_core.specs.Jobs.{HasLcmOfMembers, index_pair_of}
 use Rattle.basis_core.specs.Members.{Shared, MemberShown, members_of, setting_of}
 use Rattle.basis_core.specs.Rows.{vectors_in}
 use Rattle.s_vectors.proofs.Lists.{vectors_are}
@@ -55,7 +55,7 @@ top_part n ws list k index residue v q is f at c =
     let g : IsFactorOf n ws k (get_or list index []) q.monomial = subst (λ w. IsFactorOf n ws k w q.monomial) is f in
     record { at = at; residue_is = c; weighed = g.weighed; exponents = g.exponents; product = g.product }
 
-module _ (n : ℕ) (shared : Shared) (ms : List MemberShown) (x : CodePair) (monic : Each (IsMonicMember (setting_of n shared)) (vectors (members_of n ms))) (real : IsPair (vectors (members_of n ms)) (pair_of x)) {ws : List ℕ} (has : HasLcmOfMembers n ws ms x) where
+module _ (n : ℕ) (shared : Shared) (ms : List MemberShown) (x : CodePair) (monic : Each (IsMonicMember (setting_of n shared)) (vectors (members_of n ms))) (real : IsPair (vectors (members_of n ms)) (index_pair_of x)) {ws : List ℕ} (has : HasLcmOfMembers n ws ms x) where
   pub left_within : x.i < length (vectors_in ms)
   left_within = let a = real.ordered in let b = real.within in let e = ap length (vectors_are n ms) in let l = length_sums n (vectors_in ms) in omega arith
 

@@ -7,7 +7,7 @@ use Rattle.bases.specs.Leads.{head_key}
 use Rattle.bases.specs.Representations.{s_vector}
 use Rattle.term_lists.specs.Vectors.{key_of, sum_of, sums_of}
 use Rattle.term_lists.specs.declared.key.Key.{Key as CodeKey}
-use Rattle.module_vectors.specs.Trails.{HasKey, lead_at, product_lead}
+use Rattle.module_vectors.specs.Trails.{HasKey, kept_product_lead, lead_at}
 use Rattle.pair_criteria.specs.declared.pair.Pair.{Pair as CodePair}
 use Rattle.vector_division.proofs.Members.{sums_at}
 use Rattle.vector_division.proofs.Occurring.{Contains_here}
@@ -25,7 +25,7 @@ module _ (n : ℕ) (ws : List ℕ) (p : ℕ) (list : List (List (CodeKey × ℕ)
   -- the product of a part has the lcm as its lead
   top_lead :
       (k : CodeKey) (i c : ℕ) (q : ScaledProduct)
-      → IsTopPart n ws list k i c q → (lead_at n list i).0 ≡ k.position → product_lead n list (unscaled q) ≡ key_of n k
+      → IsTopPart n ws list k i c q → (lead_at n list i).0 ≡ k.position → kept_product_lead n list (unscaled q) ≡ key_of n k
   top_lead k i c q h at = ap (λ z. shift (exponents_of n q.monomial.exponents) (lead_at n list z)) h.at ∙ ap₂ (λ a b. (a, b)) at h.product
 
   -- and it is the product of the S-vector

@@ -15,7 +15,7 @@ use Rattle.vector_division.specs.declared.reduction.ScaledProduct.{ScaledProduct
 use Rattle.basis_steps.specs.Criteria.{IsPair}
 use Rattle.basis_steps.specs.Divisions.{IsMonicMember}
 use Rattle.basis_steps.specs.States.{vectors}
-use Rattle.basis_core.specs.Jobs.{HasLcmOfMembers, pair_of}
+use Rattle.basis_core.specs.Jobs.{HasLcmOfMembers, index_pair_of}
 use Rattle.basis_core.specs.Members.{MembersShown, members_of, setting_of}
 use Rattle.basis_core.specs.Rows.{vectors_in}
 use Rattle.s_vectors.specs.Parts.{ArePairParts, IsPart}
@@ -24,7 +24,7 @@ use Rattle.s_vectors.specs.PairProducts.{ArePairProducts}
 -- the members are monic, and the pair is one of them and has its lcm
 pub record AreOfPair (m : MembersShown) (x : CodePair) : Type 0 where
   pub monic : Each (IsMonicMember (setting_of (variables m.shared.ring) m.shared)) (vectors (members_of (variables m.shared.ring) m.list))
-  pub real : IsPair (vectors (members_of (variables m.shared.ring) m.list)) (pair_of x)
+  pub real : IsPair (vectors (members_of (variables m.shared.ring) m.list)) (index_pair_of x)
   pub lcm : HasLcmOfMembers (variables m.shared.ring) m.shared.ring.weights m.list x
 
 -- the same product with the residue of -c for c

@@ -3,7 +3,7 @@ use Rattle.std.specs.Prelude.{List, [], length, ⊤, ℕ, ◌++◌, ◌+◌, ◌
 use Rattle.formal_sums.specs.FormalSums.{Each, Key}
 use Rattle.monomial_orders.specs.Kept.{IsWeighed, Monomial}
 use Rattle.term_lists.specs.declared.key.Key.{Key as CodeKey}
-use Rattle.module_vectors.specs.Trails.{AreMet, IsOfProduct, KeptProduct, product_lead}
+use Rattle.module_vectors.specs.Trails.{AreMet, IsOfProduct, KeptProduct, kept_product_lead}
 use Rattle.basis_core.specs.Members.{MemberShown}
 use Rattle.basis_core.specs.Rows.{vectors_in}
 use Rattle.s_vectors.specs.declared.stops.PairStop.{PairStop}
@@ -12,7 +12,7 @@ use Rattle.s_vectors.specs.declared.stops.PairStop.TheVariants.{Memory, Degree}
 -- the lead of the first product is k, and that of each later one is a key of an earlier one
 abbrev pub AreProductsLinked : (n : ℕ) → List (List (CodeKey × ℕ)) → Key n → List KeptProduct → Type 0
 AreProductsLinked n list k [] = ⊤
-AreProductsLinked n list k (first ∷ later) = (product_lead n list first ≡ k) × AreMet n [] list (first ∷ []) later
+AreProductsLinked n list k (first ∷ later) = (kept_product_lead n list first ≡ k) × AreMet n [] list (first ∷ []) later
 
 -- products of members by monomials in n variables of these weights that are linked to the lcm k of a pair
 pub record ArePairProducts (n : ℕ) (ws : List ℕ) (list : List (List (CodeKey × ℕ))) (k : Key n) (products : List KeptProduct) : Type 0 where

@@ -10,9 +10,9 @@ use Rattle.member_products.specs.declared.member.Reduct.{Reduct as CodeReduct}
 use Rattle.monomial_orders.specs.Kept.{IsWeighed}
 use Rattle.term_lists.specs.Rings.{variables}
 use Rattle.pair_criteria.specs.declared.pair.Pair.{Pair as CodePair}
-use Rattle.basis_core.specs.Jobs.{pair_of}
-use Rattle.basis_core.specs.Members.{IsRunRow, MembersShown, members_of, rows_of, setting_of}
-use Rattle.basis_core.specs.Outcomes.{products_of}
+use Rattle.basis_core.specs.Jobs.{index_pair_of}
+use Rattle.basis_core.specs.Members.{IsRunRow, MembersShown, members_of, reduct_rows_of, setting_of}
+use Rattle.basis_core.specs.Outcomes.{indexed_products_of}
 use Rattle.s_vectors.specs.declared.division.Division.{Division}
 
 -- the rows of these pairs of the members G, at most one a pair
@@ -33,5 +33,5 @@ pub record IsSolvedPair (m : MembersShown) (x : CodePair) (d : Division) : Type 
   pub over : Each (IsRunRow m.shared (length m.list)) (row_list d.row)
   pub weighed : Each (λ t. IsWeighed (variables m.shared.ring) m.shared.ring.weights t.1) d.products.items
   pub solved :
-      IsSolved (setting_of (variables m.shared.ring) m.shared) (vectors (members_of (variables m.shared.ring) m.list)) (pair_of x ∷ [])
-      (rows_of (variables m.shared.ring) (row_list d.row)) (products_of (variables m.shared.ring) d.products.items)
+      IsSolved (setting_of (variables m.shared.ring) m.shared) (vectors (members_of (variables m.shared.ring) m.list)) (index_pair_of x ∷ [])
+      (reduct_rows_of (variables m.shared.ring) (row_list d.row)) (indexed_products_of (variables m.shared.ring) d.products.items)

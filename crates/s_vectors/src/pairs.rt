@@ -6,7 +6,7 @@ ghost use Rattle.term_lists.specs.Vectors.{AreVectorsOver};
 ghost use Rattle.basis_steps.specs.Criteria.{IsPair};
 ghost use Rattle.basis_steps.specs.Divisions.{IsMonicMember};
 ghost use Rattle.basis_steps.specs.States.{vectors};
-ghost use Rattle.basis_core.specs.Jobs.{HasLcmOfMembers, pair_of};
+ghost use Rattle.basis_core.specs.Jobs.{HasLcmOfMembers, index_pair_of};
 ghost use Rattle.basis_core.specs.Members.{members_of, setting_of};
 ghost use Rattle.basis_core.specs.Rows.{vectors_in};
 ghost use Rattle.s_vectors.specs.Parts.{ArePairParts};
@@ -27,7 +27,7 @@ pub(crate) fn pair_parts(
     requires over { ring.now ≡ members.now.shared.ring }
     requires list { AreVectorsOver ring.now (ring_comparison ring.now) (vectors_in members.now.list) }
     requires monic { let n = variables ring.now in Each (IsMonicMember (setting_of n members.now.shared)) (vectors (members_of n members.now.list)) }
-    requires real { IsPair (vectors (members_of (variables ring.now) members.now.list)) (pair_of pair.now) }
+    requires real { IsPair (vectors (members_of (variables ring.now) members.now.list)) (index_pair_of pair.now) }
     requires lcm { HasLcmOfMembers (variables ring.now) ring.now.weights members.now.list pair.now }
     ensures { IfOk result (λ parts. ArePairParts (variables ring.now) ring.now.weights ring.now.modulus.value
         (vectors_in members.now.list) pair.now parts.items) }

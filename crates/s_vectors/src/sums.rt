@@ -5,7 +5,7 @@ ghost use Rattle.formal_sums.specs.Combinations.{combination};
 ghost use Rattle.term_lists.specs.Rings.{ring_comparison, variables};
 ghost use Rattle.term_lists.specs.Stops.{Fits, HasMonomial, IsTooGreat};
 ghost use Rattle.term_lists.specs.Vectors.{AreVectorsOver, IsMonomialOver, IsVectorOver, StandsFor, sums_of};
-ghost use Rattle.module_vectors.specs.Products.{AreProducts, sum_of_products};
+ghost use Rattle.module_vectors.specs.Products.{AreProducts, sum_of_product_list};
 ghost use Rattle.vector_division.specs.Reductions.{cofactors_of, term_of};
 ghost use Rattle.s_vectors.specs.Parts.{GreatStops, IsGreatProduct, IsPart, PartsStop};
 ghost use Rattle.s_vectors.specs.declared.sums.SumStop.TheVariants.{Memory};
@@ -108,7 +108,7 @@ fn sum_products(alloc: Global, ring: &Ring, products: &[Product<'_>]) -> Result<
     requires factors { Each (λ x. (x.residue < ring.now.modulus.value) × IsMonomialOver ring.now x.monomial.now) products.now }
     requires vectors { Each (λ x. IsVectorOver ring.now (ring_comparison ring.now) x.vector.now) products.now }
     ensures vector { IfOk result (IsVectorOver ring.now (ring_comparison ring.now)) }
-    ensures sum { IfOk result (λ v. StandsFor ring.now v (sum_of_products (variables ring.now) products.now)) }
+    ensures sum { IfOk result (λ v. StandsFor ring.now v (sum_of_product_list (variables ring.now) products.now)) }
     ensures stop { IfErr result (GreatStops products.now) }
 {
     match Vect::sum_of_products(alloc, ring, products) {

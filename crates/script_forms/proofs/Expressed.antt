@@ -7,19 +7,19 @@ use Rattle.script_tokens.specs.declared.token.TokenKind.TheVariants as kinds
 use Rattle.poly_grammar.specs.Lexemes.{Lexeme, caret, closed, lexeme, minus, name, number, plus}
 use Rattle.poly_grammar.specs.Numerals.{text_of}
 use Rattle.poly_grammar.specs.Steps.{steps}
-use Rattle.poly_grammar.specs.Trees.{Atom, Factor, Factors, Poly, Reads, Term, Terms, alone, atom_spelling, bare, factor_spelling, factors_spelling, group, last, letter, minus_term, negative, numeral, plain, plus_term, poly, positive, power, spelling, term, term_spelling, terms_spelling, times}
+use Rattle.poly_grammar.specs.Trees.{Atom, Factor, Factors, Poly, Reads, TermTree, Terms, alone, atom_spelling, bare, factor_spelling, factors_spelling, group, last, letter, minus_term, negative, numeral, plain, plus_term, poly, positive, power, spelling, term, term_spelling, terms_spelling, times}
 use Rattle.poly_grammar.specs.declared.step.PolyStep.{PolyStep}
 use Rattle.poly_grammar.specs.declared.stop.ReadStop.{ReadStop}
 use Rattle.poly_grammar.specs.declared.stop.ReadStop.TheVariants.{Memory, Syntax}
 use Rattle.poly_grammar.proofs.Unique.{one_tree}
-use Rattle.script_forms.specs.Forms.{AreExpressed, AreReadAs, IsBehindAtom, ended, ended_behind}
+use Rattle.script_forms.specs.Forms.{AreExpressed, AreReadAs, IsBehindAtom, ended_behind, ends_atom}
 use Rattle.script_forms.specs.Written.{ArePolys, IsExpressLine, IsOnePoly}
 use Rattle.script_forms.proofs.Pieces.{name_is, named, one_list}
 use Rattle.script_forms.proofs.States.{same_stop, state_joins, state_stops}
 
 -- from no atom to one, over two parts
 joins : (b : Bool) (xs ys : List Lexeme) → ended_behind b xs ≡ Some true → ended_behind true ys ≡ Some true → ended_behind b (xs ++ ys) ≡ Some true
-joins b xs ys h k = state_joins ended b true true xs ys h k
+joins b xs ys h k = state_joins ends_atom b true true xs ys h k
 
 -- a POLY and its parts end with an atom
 mutual
@@ -33,7 +33,7 @@ mutual
   terms_end (plus_term t ts) = joins false (term_spelling t) (terms_spelling ts) (term_ends t) (terms_end ts)
   terms_end (minus_term t ts) = joins false (term_spelling t) (terms_spelling ts) (term_ends t) (terms_end ts)
 
-  term_ends : (t : Term) → ended_behind false (term_spelling t) ≡ Some true
+  term_ends : (t : TermTree) → ended_behind false (term_spelling t) ≡ Some true
   term_ends (term f fs) = joins false (factor_spelling f) (factors_spelling fs) (factor_ends f) (factors_end fs)
 
   factors_end : (fs : Factors) → ended_behind true (factors_spelling fs) ≡ Some true
@@ -53,7 +53,7 @@ reads_end : (xs : List Lexeme) (p : Poly) → Reads xs p → ended_behind false 
 reads_end xs p r = subst (λ l. ended_behind false l ≡ Some true) (sym r.spelled) (poly_ends p)
 
 -- a NAME has no place directly behind an atom, and nothing else has none
-name_only : (b : Bool) (x : Lexeme) → ended b x ≡ None → (t : Token) × (b ≡ true) × (x ≡ name t)
+name_only : (b : Bool) (x : Lexeme) → ends_atom b x ≡ None → (t : Token) × (b ≡ true) × (x ≡ name t)
 name_only true (name t) e = (t, refl, refl)
 name_only true _ e = absurd cc
 name_only false (name t) e = absurd cc
@@ -61,7 +61,7 @@ name_only false _ e = absurd cc
 
 pub place_found :
     (tokens : List Token) (at : ℕ) (d : Token) (atom : Bool) → at < length tokens → ended_behind false (map lexeme (take at tokens)) ≡ Some atom
-    → ended atom (lexeme (get_or tokens at d)) ≡ None → IsBehindAtom tokens at
+    → ends_atom atom (lexeme (get_or tokens at d)) ≡ None → IsBehindAtom tokens at
 place_found tokens at d atom lt h none =
     let n = name_only atom (lexeme (get_or tokens at d)) none in
     record { before = h ∙ ap Some n.1; word = n.0; cut = ap (map lexeme) (drop_more tokens at d lt) ∙ ap (λ x. x ∷ map lexeme (drop (at + 1) tokens)) n.2 }
@@ -95,7 +95,7 @@ pub record Splits (line : List ℕ) (front rest : List Lexeme) (word : Token) (p
 pub splits : (line : List ℕ) (xs front rest : List Lexeme) (word : Token) (p : Poly) (images : List Poly) → IsCut xs front rest word → IsExpressLine line xs p images → Splits line front rest word p images
 splits line xs front rest word p images c e =
     let all : front ++ name word ∷ rest ≡ e.front ++ name e.word.0 ∷ e.rest = sym c.spelled ∙ e.spelled ∙ ap (λ l. e.front ++ l) e.word.2 in
-    let s = same_stop ended false true true front e.front rest e.rest (name word) (name e.word.0) c.before refl (reads_end e.front p e.first) refl all in
+    let s = same_stop ends_atom false true true front e.front rest e.rest (name word) (name e.word.0) c.before refl (reads_end e.front p e.first) refl all in
     let tokens : word ≡ e.word.0 = cc (s.1) in
     let tail : rest ≡ e.rest = cc (s.1) in
     record {
@@ -116,7 +116,7 @@ pub uncut : (line : List ℕ) (xs : List Lexeme) → ((atom : Bool) × (ended_be
 uncut line xs h [] k = k
 uncut line xs h (p ∷ images) k =
     let whole : xs ≡ k.front ++ name k.word.0 ∷ k.rest = k.spelled ∙ ap (λ l. k.front ++ l) k.word.2 in
-    let no : None ≡ Some h.0 = sym (state_stops ended false true (name k.word.0) k.front k.rest (reads_end k.front p k.first) refl) ∙ sym (ap (ended_behind false) whole) ∙ h.1 in absurd cc
+    let no : None ≡ Some h.0 = sym (state_stops ends_atom false true (name k.word.0) k.front k.rest (reads_end k.front p k.first) refl) ∙ sym (ap (ended_behind false) whole) ∙ h.1 in absurd cc
 
 module _ (line : List ℕ) (xs front rest : List Lexeme) (word : Token) (c : IsCut xs front rest word) where
   -- nor where the NAME is another

@@ -8,7 +8,7 @@ use Rattle.script_tokens.specs.declared.token.TokenKind.{TokenKind}
 use Rattle.script_tokens.specs.declared.token.TokenKind.TheVariants as kinds
 use Rattle.poly_grammar.specs.Lexemes.{Lexeme, caret, close_bracket, closed, comma, equals, lexeme, lexeme_as, minus, name, number, open_bracket, opened, plus, star}
 use Rattle.poly_grammar.specs.Steps.{steps}
-use Rattle.poly_grammar.specs.Trees.{Atom, Factor, Factors, Lead, Poly, Reads, Term, Terms, alone, atom_spelling, bare, factor_spelling, factors_spelling, group, last, lead, letter, minus_term, negative, numeral, plain, plus_term, poly, positive, power, spelling, term, term_spelling, terms_spelling, times}
+use Rattle.poly_grammar.specs.Trees.{Atom, Factor, Factors, Lead, Poly, Reads, TermTree, Terms, alone, atom_spelling, bare, factor_spelling, factors_spelling, group, last, lead, letter, minus_term, negative, numeral, plain, plus_term, poly, positive, power, spelling, term, term_spelling, terms_spelling, times}
 use Rattle.poly_grammar.specs.declared.step.PolyStep.{PolyStep}
 use Rattle.poly_grammar.specs.declared.stop.ReadStop.{ReadStop}
 use Rattle.poly_grammar.specs.declared.stop.ReadStop.TheVariants.{Memory, Syntax}
@@ -36,7 +36,7 @@ module _ (P : Lexeme → Type 0) (of_name : (t : Token) → P (name t)) (of_numb
     all_terms (plus_term t ts) = (of_plus, all_append P (term_spelling t) (terms_spelling ts) (all_term t) (all_terms ts))
     all_terms (minus_term t ts) = (of_minus, all_append P (term_spelling t) (terms_spelling ts) (all_term t) (all_terms ts))
 
-    all_term : (t : Term) → AllByRecursion P (term_spelling t)
+    all_term : (t : TermTree) → AllByRecursion P (term_spelling t)
     all_term (term f fs) = all_append P (factor_spelling f) (factors_spelling fs) (all_factor f) (all_factors fs)
 
     all_factors : (fs : Factors) → AllByRecursion P (factors_spelling fs)

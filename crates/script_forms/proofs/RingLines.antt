@@ -9,7 +9,7 @@ use Rattle.script_tokens.specs.declared.token.TokenKind.TheVariants as kinds
 use Rattle.poly_grammar.specs.Lexemes.{Lexeme, comma, name, number}
 use Rattle.poly_grammar.specs.Numerals.{text_of}
 use Rattle.script_forms.specs.Forms.{IsNoComma}
-use Rattle.script_forms.specs.RingForms.{all_of, elim_first, list_behind, list_first, list_item, order_first, ring_of, token_of, top_first, weights_of, with_names, with_order, with_weights}
+use Rattle.script_forms.specs.RingForms.{all_of, elim_first, list_behind, list_first, list_item, order_first, ring_of, token_of, top_first, weights_of, with_names, with_order_name, with_weights}
 use Rattle.script_forms.specs.Written.{AreListedNames, IsOrder, IsRingLine, IsTopWord, IsWeighting, RingLine, comma_list}
 use Rattle.script_forms.specs.declared.ring_words.OrderName.{OrderName}
 use Rattle.script_forms.specs.declared.ring_words.OrderName.TheVariants.{Elim, Grevlex, Lex}
@@ -183,7 +183,7 @@ weights_back line (_ ∷ xs) = tt
 
 -- ---- ring lines
 
-spelled_names : (line : List ℕ) (m : Token) (names : List Token) (xs ys : List Lexeme) → AreListedNames xs names → BeginsNoComma ys → with_names line m (list_first (token_of kinds.Name) (xs ++ ys)) ≡ with_order line m names (order_first line ys)
+spelled_names : (line : List ℕ) (m : Token) (names : List Token) (xs ys : List Lexeme) → AreListedNames xs names → BeginsNoComma ys → with_names line m (list_first (token_of kinds.Name) (xs ++ ys)) ≡ with_order_name line m names (order_first line ys)
 spelled_names line m [] xs ys h k = absurd h
 spelled_names line m (t ∷ ts) xs ys h k =
     ap (λ l. with_names line m (list_first (token_of kinds.Name) (l ++ ys))) h ∙ ap (with_names line m) (first_again name (token_of kinds.Name) pick_name name_picked t ts ys k)
@@ -191,11 +191,11 @@ spelled_names line m (t ∷ ts) xs ys h k =
 -- a ring line is found
 pub ring_again : (line : List ℕ) (xs : List Lexeme) (r : RingLine) → IsRingLine line xs r → ring_of line xs ≡ Some r
 ring_again line xs r h =
-    let names : with_names line r.modulus (list_first (token_of kinds.Name) (h.names ++ (h.order ++ (h.top ++ h.weights)))) ≡ with_order line r.modulus r.names (order_first line (h.order ++ (h.top ++ h.weights))) =
+    let names : with_names line r.modulus (list_first (token_of kinds.Name) (h.names ++ (h.order ++ (h.top ++ h.weights)))) ≡ with_order_name line r.modulus r.names (order_first line (h.order ++ (h.top ++ h.weights))) =
     spelled_names line r.modulus r.names h.names (h.order ++ (h.top ++ h.weights)) h.names_are (order_begins line r.order h.order (h.top ++ h.weights) h.order_is) in
     let order : order_first line (h.order ++ (h.top ++ h.weights)) ≡ Some (r.order, h.top ++ h.weights) = order_again line r.order h.order (h.top ++ h.weights) h.order_is in
     let top : top_first line (h.top ++ h.weights) ≡ (r.top, h.weights) = top_again line r.top h.top h.weights r.weights h.top_is h.weights_are in
-    ap (ring_of line) h.spelled ∙ names ∙ ap (with_order line r.modulus r.names) order
+    ap (ring_of line) h.spelled ∙ names ∙ ap (with_order_name line r.modulus r.names) order
     ∙ ap (λ f. with_weights r.modulus r.names r.order f.0 (weights_of line f.1)) top ∙ ap (with_weights r.modulus r.names r.order r.top) (weights_again line h.weights r.weights h.weights_are)
 
 -- what is found is a ring line
@@ -216,7 +216,7 @@ module _ (line : List ℕ) (m t : Token) (ts : List Token) (order_part : List Le
   }
 
 with_order_back : (line : List ℕ) (m t : Token) (ts : List Token) (xs : List Lexeme) (o : Option (OrderName × List Lexeme)) → IfSome o (IsOrderFirst line xs)
-    → IfSome (with_order line m (t ∷ ts) o) (IsRingLine line (number m ∷ name t ∷ (comma_list name ts ++ xs)))
+    → IfSome (with_order_name line m (t ∷ ts) o) (IsRingLine line (number m ∷ name t ∷ (comma_list name ts ++ xs)))
 with_order_back line m t ts xs None h = tt
 with_order_back line m t ts xs (Some (order, ys)) h =
     let top = top_back line ys in
@@ -228,8 +228,8 @@ with_names_back : (line : List ℕ) (m : Token) (xs : List Lexeme) (o : Option (
     → IfSome (with_names line m o) (IsRingLine line (number m ∷ xs))
 with_names_back line m xs None h = tt
 with_names_back line m xs (Some (names, ys)) h =
-    subst (λ l. IfSome (with_order line m l (order_first line ys)) (IsRingLine line (number m ∷ xs))) (sym h.2)
-    (subst (λ l. IfSome (with_order line m (h.0 ∷ h.1) (order_first line ys)) (IsRingLine line (number m ∷ l))) (sym h.3)
+    subst (λ l. IfSome (with_order_name line m l (order_first line ys)) (IsRingLine line (number m ∷ xs))) (sym h.2)
+    (subst (λ l. IfSome (with_order_name line m (h.0 ∷ h.1) (order_first line ys)) (IsRingLine line (number m ∷ l))) (sym h.3)
     (with_order_back line m h.0 h.1 ys (order_first line ys) (order_back line ys)))
 
 pub ring_back : (line : List ℕ) (xs : List Lexeme) → IfSome (ring_of line xs) (IsRingLine line xs)

@@ -139,16 +139,16 @@ AreVectorsRead xs (Err Syntax) = (vectors : List (List Poly)) → AreVectors xs 
 
 -- whether an atom of a POLY ends with the lexeme, by whether one ends before it; none at a NAME directly behind an atom, which
 -- stands in no POLY
-abbrev pub ended : Bool → Lexeme → Option Bool
-ended true (name t) = None
-ended false (name t) = Some true
-ended atom (number t) = Some true
-ended atom closed = Some true
-ended atom _ = Some false
+abbrev pub ends_atom : Bool → Lexeme → Option Bool
+ends_atom true (name t) = None
+ends_atom false (name t) = Some true
+ends_atom atom (number t) = Some true
+ends_atom atom closed = Some true
+ends_atom atom _ = Some false
 
 -- the same behind several
 abbrev pub ended_behind : Bool → List Lexeme → Option Bool
-ended_behind atom xs = state_behind ended atom xs
+ended_behind atom xs = state_behind ends_atom atom xs
 
 -- a NAME stands at this place directly behind an atom, and none does before it
 pub record IsBehindAtom (tokens : List Token) (at : ℕ) : Type 0 where

@@ -97,14 +97,14 @@ with_weights m names order top None = None
 with_weights m names order top (Some weights) = Some (record { modulus = m; names = names; order = order; top = top; weights = weights })
 
 -- behind the NAMEs of a ring line: order [top] [weights NUM {, NUM}], all of the lexemes
-abbrev pub with_order : List ℕ → Token → List Token → Option (OrderName × List Lexeme) → Option RingLine
-with_order line m names None = None
-with_order line m names (Some (order, xs)) = with_weights m names order (top_first line xs).0 (weights_of line (top_first line xs).1)
+abbrev pub with_order_name : List ℕ → Token → List Token → Option (OrderName × List Lexeme) → Option RingLine
+with_order_name line m names None = None
+with_order_name line m names (Some (order, xs)) = with_weights m names order (top_first line xs).0 (weights_of line (top_first line xs).1)
 
 -- behind the NUM of a ring line: NAME {, NAME} and the rest, all of the lexemes
 abbrev pub with_names : List ℕ → Token → Option (List Token × List Lexeme) → Option RingLine
 with_names line m None = None
-with_names line m (Some (names, xs)) = with_order line m names (order_first line xs)
+with_names line m (Some (names, xs)) = with_order_name line m names (order_first line xs)
 
 -- NUM NAME {, NAME} order [top] [weights NUM {, NUM}], all of the lexemes
 abbrev pub ring_of : List ℕ → List Lexeme → Option RingLine

@@ -3,7 +3,7 @@
 
 ghost use Rattle.std.specs.Prelude.{◌≡◌, ◌<◌, Bool, length, map, false, IfNone, IfSome, Some};
 ghost use Rattle.poly_grammar.specs.Lexemes.{lexeme};
-ghost use Rattle.script_forms.specs.Forms.{AreExpressed, AreReadAs, IsBehindAtom, ended, ended_behind};
+ghost use Rattle.script_forms.specs.Forms.{AreExpressed, AreReadAs, IsBehindAtom, ended_behind, ends_atom};
 
 use crate::polynomials::{one_polynomial, polynomials};
 use crate::words::is_word;
@@ -13,7 +13,7 @@ use std::alloc::Global;
 
 /// Whether an atom ends with the token, by whether one ends before it; none at a NAME directly behind an atom.
 fn ended(atom: bool, token: Token) -> Option<bool>
-    ensures { result ≡ ended atom (lexeme token) }
+    ensures { result ≡ ends_atom atom (lexeme token) }
 {
     match token.kind {
         TokenKind::Name if atom => None,

@@ -2,7 +2,7 @@
 use Rattle.std.proofs.Common.{◌≡◌, ℕ, ◌<◌, ◌≤◌, inl, inr, true, false, List, [], length, Option, Some, None, Result, Ok, Err, Vec, Global, refl, sym, ap, subst, ◌∙◌, arith}
 use Rattle.std.specs.List.{AllByRecursion, list_all}
 use Rattle.std.specs.Prelude.{Contains}
-use Rattle.poly_grammar.specs.Numerals.{value_of}
+use Rattle.poly_grammar.specs.Numerals.{numeral_value}
 use Rattle.poly_grammar.specs.declared.step.PolyStep.{PolyStep}
 use Rattle.zp_field.specs.Moduli.{is_modulus}
 use Rattle.term_lists.specs.declared.ring.Ring.{Ring}
@@ -16,7 +16,7 @@ use Rattle.script_forms.specs.declared.ring_words.RingForm.{RingForm}
 use Rattle.script_forms.proofs.Lines.{one_line}
 use Rattle.script_parse.specs.Answers.{AnswersLine}
 use Rattle.script_parse.specs.Tests.{AnswersForm, HoldsOf, IsFormed, AreStepsOfPolynomial, IsStated, known_names, low_degree, number_fits, rank_fits, repeats, right_kinds}
-use Rattle.script_parse.specs.Refusals.{HasFaultyRing, HasGreatDegree, HasGreatNumeral, HasOtherElim, HasOtherFactor, HasOtherKind, HasOtherModulus, HasOtherRank, HasOtherWeights, HasUnknownName, RefusalHolds, LacksRing, place}
+use Rattle.script_parse.specs.Refusals.{HasFaultyRing, HasGreatDegree, HasGreatNumeral, HasOtherElim, HasOtherFactor, HasOtherKind, HasOtherModulus, HasOtherRank, HasOtherWeights, HasUnknownName, RefusalHolds, LacksRing, place_of_kind}
 use Rattle.script_parse.specs.Statements.{Makes}
 use Rattle.script_parse.specs.declared.kind.Kind.{Kind}
 use Rattle.script_parse.specs.declared.kind.Kind.TheVariants as kinds
@@ -28,7 +28,7 @@ use Rattle.script_parse.specs.declared.stated.Statement.TheVariants as statement
 use Rattle.script_parse.proofs.Testing.{each_known, each_right, great_degree, has_ring, lacks_ring, low_degrees, other_kind, other_rank, right_rank, unknown_name}
 use Rattle.script_parse.proofs.Texts.{are_polynomials, repeats_not}
 
-none_before_syntax : (ring : Option Ring) (infos : List NameInfo) (line : List ℕ) (earlier : Kind) → place earlier < 1 → RefusalHolds ring infos line earlier → ⊥
+none_before_syntax : (ring : Option Ring) (infos : List NameInfo) (line : List ℕ) (earlier : Kind) → place_of_kind earlier < 1 → RefusalHolds ring infos line earlier → ⊥
 none_before_syntax ring infos line kinds.Syntax lt h = omega (arith, lt)
 none_before_syntax ring infos line kinds.Numeral lt h = omega (arith, lt)
 none_before_syntax ring infos line kinds.Ring lt h = omega (arith, lt)
@@ -43,7 +43,7 @@ none_before_syntax ring infos line kinds.Large lt h = omega (arith, lt)
 none_before_syntax ring infos line kinds.Infinite lt h = omega (arith, lt)
 none_before_syntax ring infos line kinds.Many lt h = omega (arith, lt)
 
-none_before_numeral : (ring : Option Ring) (infos : List NameInfo) (line : List ℕ) → ((w : Written) × IsLine line w) → (earlier : Kind) → place earlier < 2 → RefusalHolds ring infos line earlier → ⊥
+none_before_numeral : (ring : Option Ring) (infos : List NameInfo) (line : List ℕ) → ((w : Written) × IsLine line w) → (earlier : Kind) → place_of_kind earlier < 2 → RefusalHolds ring infos line earlier → ⊥
 none_before_numeral ring infos line is kinds.Syntax lt h = h is.0 is.1
 none_before_numeral ring infos line is kinds.Numeral lt h = omega (arith, lt)
 none_before_numeral ring infos line is kinds.Ring lt h = omega (arith, lt)
@@ -193,7 +193,7 @@ no_fault line r n e few once elim_fits weights_fit (inr (inr (inl h))) = elim_fi
 no_fault line r n e few once elim_fits weights_fit (inr (inr (inr h))) = weights_fit (subst (λ k. HasOtherWeights line k r.weights) (sym e) h)
 
 module _ (ring : Option Ring) (infos : List NameInfo) (line : List ℕ) (r : RingLine) where
-  before_ring : (earlier : Kind) → place earlier < 3 → HoldsOf ring infos line (ring_line r) earlier → ⊥
+  before_ring : (earlier : Kind) → place_of_kind earlier < 3 → HoldsOf ring infos line (ring_line r) earlier → ⊥
   before_ring kinds.Syntax lt h = h
   before_ring kinds.Numeral lt h = h
   before_ring kinds.Ring lt h = omega (arith, lt)
@@ -212,7 +212,7 @@ module _ (ring : Option Ring) (infos : List NameInfo) (line : List ℕ) (r : Rin
   pub no_ring : HasFaultyRing line r → AnswersForm ring infos line (ring_line r) (Err (Refused kinds.Ring))
   no_ring h = (h, before_ring)
 
-  before_modulus : (HasFaultyRing line r → ⊥) → (earlier : Kind) → place earlier < 4 → HoldsOf ring infos line (ring_line r) earlier → ⊥
+  before_modulus : (HasFaultyRing line r → ⊥) → (earlier : Kind) → place_of_kind earlier < 4 → HoldsOf ring infos line (ring_line r) earlier → ⊥
   before_modulus fine kinds.Syntax lt h = h
   before_modulus fine kinds.Numeral lt h = h
   before_modulus fine kinds.Ring lt h = fine h
@@ -227,10 +227,10 @@ module _ (ring : Option Ring) (infos : List NameInfo) (line : List ℕ) (r : Rin
   before_modulus fine kinds.Infinite lt h = omega (arith, lt)
   before_modulus fine kinds.Many lt h = omega (arith, lt)
 
-  pub no_modulus : (HasFaultyRing line r → ⊥) → is_modulus (value_of line r.modulus) ≡ false → AnswersForm ring infos line (ring_line r) (Err (Refused kinds.Modulus))
+  pub no_modulus : (HasFaultyRing line r → ⊥) → is_modulus (numeral_value line r.modulus) ≡ false → AnswersForm ring infos line (ring_line r) (Err (Refused kinds.Modulus))
   no_modulus fine other = (other, before_modulus fine)
 
-  ring_free : (HasFaultyRing line r → ⊥) → is_modulus (value_of line r.modulus) ≡ true → (kind : Kind) → HoldsOf ring infos line (ring_line r) kind → ⊥
+  ring_free : (HasFaultyRing line r → ⊥) → is_modulus (numeral_value line r.modulus) ≡ true → (kind : Kind) → HoldsOf ring infos line (ring_line r) kind → ⊥
   ring_free fine known kinds.Syntax h = h
   ring_free fine known kinds.Numeral h = h
   ring_free fine known kinds.Ring h = fine h
@@ -265,7 +265,7 @@ module _ (o : Option Ring) (ring : Ring) (infos : List NameInfo) (line : List �
     rank : 7 < n → rank_fits (length ring.vars) infos line head (length pieces) ≡ true
     degree : 8 < n → list_all (λ v. low_degree ring line v.items) pieces ≡ true
 
-  none_before : (n : ℕ) → Passed n → (earlier : Kind) → place earlier < n → HoldsOf (Some ring) infos line w earlier → ⊥
+  none_before : (n : ℕ) → Passed n → (earlier : Kind) → place_of_kind earlier < n → HoldsOf (Some ring) infos line w earlier → ⊥
   none_before n p kinds.Syntax lt h = h
   none_before n p kinds.Numeral lt h = h
   none_before n p kinds.Ring lt h = has_ring ring infos line w head pieces is (p.number lt) h
@@ -280,8 +280,8 @@ module _ (o : Option Ring) (ring : Ring) (infos : List NameInfo) (line : List �
   none_before n p kinds.Infinite lt h = h
   none_before n p kinds.Many lt h = h
 
-  refused : (kind : Kind) → Passed (place kind) → HoldsOf (Some ring) infos line w kind → AnswersForm o infos line w (Err (Refused kind))
-  refused kind p h = subst (λ r. AnswersForm r infos line w (Err (Refused kind))) (sym stated) (h, none_before (place kind) p)
+  refused : (kind : Kind) → Passed (place_of_kind kind) → HoldsOf (Some ring) infos line w kind → AnswersForm o infos line w (Err (Refused kind))
+  refused kind p h = subst (λ r. AnswersForm r infos line w (Err (Refused kind))) (sym stated) (h, none_before (place_of_kind kind) p)
 
   pub ring_refused : number_fits (length ring.vars) line head ≡ false → AnswersForm o infos line w (Err (Refused kinds.Ring))
   ring_refused e = refused kinds.Ring (record { number = λ lt. absurd (omega (arith, lt)); name = λ lt. absurd (omega (arith, lt)); kind = λ lt. absurd (omega (arith, lt)); rank = λ lt. absurd (omega (arith, lt)); degree = λ lt. absurd (omega (arith, lt)) }) (lacks_ring ring infos line w head pieces is e)
@@ -300,7 +300,7 @@ module _ (o : Option Ring) (ring : Ring) (infos : List NameInfo) (line : List �
       → list_all (λ v. low_degree ring line v.items) pieces ≡ false → AnswersForm o infos line w (Err (Refused kinds.Degree))
   degree_refused m n k r e = refused kinds.Degree (record { number = λ lt. m; name = λ lt. n; kind = λ lt. k; rank = λ lt. r; degree = λ lt. absurd (omega (arith, lt)) }) (great_degree ring infos line w head pieces is e)
 
-  place_small : (kind : Kind) → place kind < 14
+  place_small : (kind : Kind) → place_of_kind kind < 14
   place_small kinds.Syntax = omega arith
   place_small kinds.Numeral = omega arith
   place_small kinds.Ring = omega arith

@@ -16,7 +16,7 @@ use Rattle.script_forms.specs.declared.form.QuestionWord.TheVariants as question
 use Rattle.script_forms.specs.declared.operands.Binary.TheVariants as binaries
 use Rattle.script_forms.specs.declared.operands.ByPolynomial.TheVariants as divisors
 use Rattle.script_forms.proofs.Lines.{one_line}
-use Rattle.script_parse.specs.Refusals.{Refuses, place}
+use Rattle.script_parse.specs.Refusals.{Refuses, place_of_kind}
 use Rattle.script_parse.specs.Statements.{ArePolynomialsOf, AreVectorsOf, HasEntries, IsOperationOf, IsSameOperation, IsSameStatement, Says, States, entries_from}
 use Rattle.script_parse.specs.declared.kind.Kind.{Kind}
 use Rattle.script_parse.specs.declared.kind.Kind.TheVariants as kinds
@@ -34,7 +34,7 @@ apart ring infos line a b s r = s.free b r.holds
 kind_at : ℕ → Kind
 kind_at n = cond (eqb n 1) kinds.Syntax (cond (eqb n 2) kinds.Numeral (cond (eqb n 3) kinds.Ring (cond (eqb n 4) kinds.Modulus (cond (eqb n 5) kinds.Name (cond (eqb n 6) kinds.OfKind (cond (eqb n 7) kinds.Rank (cond (eqb n 8) kinds.Degree (cond (eqb n 9) kinds.Homogeneous (cond (eqb n 10) kinds.Leads (cond (eqb n 11) kinds.Large (cond (eqb n 12) kinds.Infinite kinds.Many)))))))))))
 
-at_place : (k : Kind) → kind_at (place k) ≡ k
+at_place : (k : Kind) → kind_at (place_of_kind k) ≡ k
 unfolding kind_at
 at_place kinds.Syntax = refl
 at_place kinds.Numeral = refl
@@ -51,12 +51,12 @@ at_place kinds.Infinite = refl
 at_place kinds.Many = refl
 
 pub one_kind : (ring : Option Ring) (infos : List NameInfo) (line : List ℕ) (a b : Kind) → Refuses ring infos line a → Refuses ring infos line b → a ≡ b
-one_kind ring infos line a b r s = by_cases (cases_lt (place a) (place b)) (cases_lt (place b) (place a))
+one_kind ring infos line a b r s = by_cases (cases_lt (place_of_kind a) (place_of_kind b)) (cases_lt (place_of_kind b) (place_of_kind a))
   where
-    by_cases : (place a < place b) ⊎ (place b ≤ place a) → (place b < place a) ⊎ (place a ≤ place b) → a ≡ b
+    by_cases : (place_of_kind a < place_of_kind b) ⊎ (place_of_kind b ≤ place_of_kind a) → (place_of_kind b < place_of_kind a) ⊎ (place_of_kind a ≤ place_of_kind b) → a ≡ b
     by_cases (inl lt) o = absurd (s.first a lt r.holds)
     by_cases (inr le) (inl lt) = absurd (r.first b lt s.holds)
-    by_cases (inr le) (inr ge) = let e : place a ≡ place b = omega arith in sym (at_place a) ∙ ap kind_at e ∙ at_place b
+    by_cases (inr le) (inr ge) = let e : place_of_kind a ≡ place_of_kind b = omega arith in sym (at_place a) ∙ ap kind_at e ∙ at_place b
 
 same_value : (ring : Ring) (line : List ℕ) (p : Poly) (v w : List (Key × ℕ)) → IsVectorOver ring (ring_comparison ring) v → IsVectorOver ring (ring_comparison ring) w → IsValue ring line p v → IsValue ring line p w → v ≡ w
 same_value ring line p v w hv hw x y =

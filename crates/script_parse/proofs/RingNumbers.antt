@@ -4,7 +4,7 @@ use Rattle.std.proofs.lemmas.Bool.{eqb-false}
 use Rattle.std.specs.Global.{Global}
 use Rattle.std.specs.Prelude.{Contains, String, string_bytes}
 use Rattle.script_tokens.specs.declared.token.Token.{Token}
-use Rattle.poly_grammar.specs.Numerals.{value_of}
+use Rattle.poly_grammar.specs.Numerals.{numeral_value}
 use Rattle.monomial_orders.specs.Kept.{AreWeights}
 use Rattle.std.proofs.lemmas.List.{get_or_default, map-append, take_more}
 use Rattle.script_parse.specs.Refusals.{HasOtherWeights, IsOutside}
@@ -32,7 +32,7 @@ one_more_name f ts i d old new name lt e is h =
     ∙ sym (ap (map f) (take_more ts i d lt) ∙ map-append f (take i ts) (get_or ts i d ∷ []))
 
 -- one more weight
-weighed_push : (line : List ℕ) (ts : List Token) (ws : List ℕ) (t : Token) (w : ℕ) → AreListedWeights line ts ws → w ≡ value_of line t → (IsOutside 255 w → ⊥) → AreListedWeights line (ts ++ t ∷ []) (ws ++ w ∷ [])
+weighed_push : (line : List ℕ) (ts : List Token) (ws : List ℕ) (t : Token) (w : ℕ) → AreListedWeights line ts ws → w ≡ numeral_value line t → (IsOutside 255 w → ⊥) → AreListedWeights line (ts ++ t ∷ []) (ws ++ w ∷ [])
 weighed_push line [] [] t w h e fits = (e, fits, tt)
 weighed_push line [] (x ∷ ws) t w h e fits = absurd h
 weighed_push line (s ∷ ts) [] t w h e fits = absurd h
@@ -40,14 +40,14 @@ weighed_push line (s ∷ ts) (x ∷ ws) t w h e fits = (h.0, h.1, weighed_push l
 
 pub weighed_go :
     (line : List ℕ) (ts : List Token) (i : ℕ) (d : Token) (old new : List ℕ) (w : ℕ) → i < length ts → new ≡ old ++ w ∷ []
-    → AreListedWeights line (take i ts) old → w ≡ value_of line (get_or ts i d) → (IsOutside 255 (value_of line (get_or ts i d)) → ⊥)
+    → AreListedWeights line (take i ts) old → w ≡ numeral_value line (get_or ts i d) → (IsOutside 255 (numeral_value line (get_or ts i d)) → ⊥)
     → AreListedWeights line (take (i + 1) ts) new
 weighed_go line ts i d old new w lt f h value fits =
     let inside = subst (λ k. IsOutside 255 k → ⊥) (sym value) fits in
     subst (λ l. AreListedWeights line l new) (sym (take_more ts i d lt))
     (subst (AreListedWeights line (take i ts ++ get_or ts i d ∷ [])) (sym f) (weighed_push line (take i ts) old (get_or ts i d) w h value inside))
 
-weighed_are : (line : List ℕ) (ts : List Token) (ws : List ℕ) → AreListedWeights line ts ws → ws ≡ map (value_of line) ts
+weighed_are : (line : List ℕ) (ts : List Token) (ws : List ℕ) → AreListedWeights line ts ws → ws ≡ map (numeral_value line) ts
 weighed_are line [] [] h = refl
 weighed_are line [] (w ∷ ws) h = absurd h
 weighed_are line (t ∷ ts) [] h = absurd h
@@ -60,16 +60,16 @@ weighed_positive line (t ∷ ts) [] h k lt = absurd h
 weighed_positive line (t ∷ ts) (w ∷ ws) h zero lt = within 255 w h.1
 weighed_positive line (t ∷ ts) (w ∷ ws) h (suc k) lt = weighed_positive line ts ws h.2 k (omega (arith, lt))
 
-weighed_fit : (line : List ℕ) (ts : List Token) (ws : List ℕ) (t : Token) → AreListedWeights line ts ws → Contains ts t → IsOutside 255 (value_of line t) → ⊥
+weighed_fit : (line : List ℕ) (ts : List Token) (ws : List ℕ) (t : Token) → AreListedWeights line ts ws → Contains ts t → IsOutside 255 (numeral_value line t) → ⊥
 weighed_fit line [] ws t h c out = omega (arith, c.1)
 weighed_fit line (s ∷ ts) [] t h c out = absurd h
-weighed_fit line (s ∷ ts) (w ∷ ws) t h (zero, lt, is) out = h.1 (subst (IsOutside 255) (sym (h.0 ∙ ap (value_of line) is)) out)
+weighed_fit line (s ∷ ts) (w ∷ ws) t h (zero, lt, is) out = h.1 (subst (IsOutside 255) (sym (h.0 ∙ ap (numeral_value line) is)) out)
 weighed_fit line (s ∷ ts) (w ∷ ws) t h (suc i, lt, is) out = weighed_fit line ts ws t h.2 (i, omega (arith, lt), is) out
 
 -- a number that is outside
 pub outside_weight :
-    (line : List ℕ) (ts : List Token) (i : ℕ) (d : Token) → i < length ts → IsOutside 255 (value_of line (get_or ts i d)) → (t : Token) × Contains ts t ×
-    IsOutside 255 (value_of line t)
+    (line : List ℕ) (ts : List Token) (i : ℕ) (d : Token) → i < length ts → IsOutside 255 (numeral_value line (get_or ts i d)) → (t : Token) × Contains ts t ×
+    IsOutside 255 (numeral_value line t)
 outside_weight line ts i d lt out = (get_or ts i d, (i, lt, get_or_default ts i (get_or ts i d) d lt), out)
 
 -- no weights are stated
@@ -84,7 +84,7 @@ other_number line n (t ∷ ts) some other = inl other
 
 -- one is outside
 pub other_weight :
-    (line : List ℕ) (n : ℕ) (ts : List Token) → (ts ≡ [] → ⊥) → (t : Token) × Contains ts t × IsOutside 255 (value_of line t) → HasOtherWeights line n ts
+    (line : List ℕ) (n : ℕ) (ts : List Token) → (ts ≡ [] → ⊥) → (t : Token) × Contains ts t × IsOutside 255 (numeral_value line t) → HasOtherWeights line n ts
 other_weight line n [] some h = absurd (some refl)
 other_weight line n (t ∷ ts) some h = inr h
 

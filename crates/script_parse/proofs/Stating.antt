@@ -5,7 +5,7 @@ use Rattle.std.specs.List.{AllByRecursion, list_all}
 use Rattle.std.specs.Prelude.{flat_map, is_some, string_bytes}
 use Rattle.script_tokens.specs.declared.token.Token.{Token}
 use Rattle.poly_grammar.specs.Algebras.{Algebra, worth, worth_of_steps}
-use Rattle.poly_grammar.specs.Numerals.{text_of, value_of}
+use Rattle.poly_grammar.specs.Numerals.{numeral_value, text_of}
 use Rattle.poly_grammar.specs.Steps.{steps}
 use Rattle.poly_grammar.specs.Trees.{Poly}
 use Rattle.poly_grammar.specs.declared.step.PolyStep.{PolyStep}
@@ -15,7 +15,7 @@ use Rattle.term_lists.specs.Rings.{ring_comparison, variables}
 use Rattle.term_lists.specs.Vectors.{HasPositions, IsVectorOver}
 use Rattle.term_lists.specs.declared.key.Key.{Key}
 use Rattle.term_lists.specs.declared.ring.Ring.{Ring}
-use Rattle.poly_value.specs.Values.{degrees_of, place_of, polynomials_of}
+use Rattle.poly_value.specs.Values.{line_degrees, place_of, polynomials_of}
 use Rattle.script_forms.specs.Forms.{IsLineOf, operands_of, shape_behind}
 use Rattle.script_forms.specs.Written.{Written, WrittenOperation, divide_line, express_line, ideal_line, module_line, of_polynomial, operation_polys, preimage, show_line}
 use Rattle.script_forms.specs.declared.form.DivisionWord.TheVariants.{Lift, Member, NormalForm}
@@ -70,7 +70,7 @@ able ring infos line (v ∷ pieces) n k d h =
     let ns = both_true (names_pass (is_known ring.vars infos) line v.items) (list_all (λ v. names_pass (is_known ring.vars infos) line v.items) pieces) n in
     let ks = both_true (names_pass (is_no_value infos) line v.items) (list_all (λ v. names_pass (is_no_value infos) line v.items) pieces) k in
     let ds = both_true (low_degree ring line v.items) (list_all (λ v. low_degree ring line v.items) pieces) d in
-    let degree = low (worth_of_steps (degrees_of ring line) v.items) ds.0 in
+    let degree = low (worth_of_steps (line_degrees ring line) v.items) ds.0 in
     let worth = has_worth (variables ring) ring.modulus.value ring.vars line (weight_of ring line) v.items degree.0 (only_variables ring.vars infos line v.items ns.0 ks.0) degree.1 in
     (record { worth = worth; degree = degree; numerals = h.0 }, able ring infos line pieces ns.1 ks.1 ds.1 h.1)
 
@@ -239,17 +239,17 @@ module _ (ring : Ring) (line : List ℕ) (rank : ℕ) (some : 0 < rank) where
       ((one.0, subst (λ k. HasPositions k u) width one.1, one.2), vectors_are (drop rank pieces) more us back b.1 w.2)
 
 pub module_says :
-    (ring : Ring) (line : List ℕ) (pieces : List (Vec PolyStep Global)) (given rank : Token) (shape : Shape) (name : _) (r : ℕ) (us : List (List (Key × ℕ))) → string_bytes name ≡ text_of line given → r ≡ value_of line rank
-    → module_fits (value_of line rank) shape (length pieces) ≡ true → AreVectorWorths ring line r pieces us
+    (ring : Ring) (line : List ℕ) (pieces : List (Vec PolyStep Global)) (given rank : Token) (shape : Shape) (name : _) (r : ℕ) (us : List (List (Key × ℕ))) → string_bytes name ≡ text_of line given → r ≡ numeral_value line rank
+    → module_fits (numeral_value line rank) shape (length pieces) ≡ true → AreVectorWorths ring line r pieces us
     → (w : Written) → IsLineOf (heads.Module given rank shape) pieces w → Says (Some ring) line w (statements.Module name r us)
 module_says ring line pieces given rank shape name r us e n fits worths (module_line t s vectors) is =
     let h = is.head_is in
     let same : given ≡ t = cc in
     let ranks : rank ≡ s = cc in
     let shapes_are : shape ≡ shape_behind Empty vectors = cc in
-    let passes = module_passes (value_of line s) vectors (length pieces) (subst (λ x. module_fits (value_of line s) x (length pieces) ≡ true) shapes_are (subst (λ x. module_fits (value_of line x) shape (length pieces) ≡ true) ranks fits)) in
-    let number : r ≡ value_of line s = n ∙ ap (value_of line) ranks in
-    (e ∙ ap (text_of line) same, number, vectors_are ring line (value_of line s) passes.0 pieces vectors us is.steps_are passes.1 (subst (λ k. AreVectorWorths ring line k pieces us) number worths))
+    let passes = module_passes (numeral_value line s) vectors (length pieces) (subst (λ x. module_fits (numeral_value line s) x (length pieces) ≡ true) shapes_are (subst (λ x. module_fits (numeral_value line x) shape (length pieces) ≡ true) ranks fits)) in
+    let number : r ≡ numeral_value line s = n ∙ ap (numeral_value line) ranks in
+    (e ∙ ap (text_of line) same, number, vectors_are ring line (numeral_value line s) passes.0 pieces vectors us is.steps_are passes.1 (subst (λ k. AreVectorWorths ring line k pieces us) number worths))
 module_says ring line pieces given rank shape name r us e n fits worths _ is = absurd (heads_apart is.head_is refl)
 
 -- the vectors that are worked out, one behind the other

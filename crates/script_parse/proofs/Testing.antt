@@ -10,7 +10,7 @@ use Rattle.std.specs.Prelude.{Contains, is_some, nat_le, not, ◌&&◌, ◌||◌
 use Rattle.script_tokens.specs.declared.token.Token.{Token}
 use Rattle.poly_grammar.specs.Degrees.{formal_degree}
 use Rattle.poly_grammar.specs.Lexemes.{names_in}
-use Rattle.poly_grammar.specs.Numerals.{text_of, value_of}
+use Rattle.poly_grammar.specs.Numerals.{numeral_value, text_of}
 use Rattle.poly_grammar.specs.Steps.{names_of_steps, steps}
 use Rattle.poly_grammar.specs.Trees.{Poly, spelling}
 use Rattle.poly_grammar.specs.declared.step.PolyStep.{PolyStep}
@@ -26,7 +26,7 @@ use Rattle.script_forms.specs.declared.form.Head.{Head}
 use Rattle.script_forms.specs.declared.form.Head.TheVariants as heads
 use Rattle.script_forms.specs.declared.operands.Binary.TheVariants.{Colon, Intersect, Product, Sum}
 use Rattle.script_forms.specs.declared.vectors.Shape.TheVariants.{Empty}
-use Rattle.script_parse.specs.Tests.{factor_fits, given_name, is_known, is_no_value, is_no_variable, known_names, low_degree, names_pass, number_fits, operand_places, operands_eliminate, operands_fit, operands_low, order_eliminates, places, rank_fits, right_kinds, same_rank}
+use Rattle.script_parse.specs.Tests.{factor_fits, given_name, is_known, is_no_value, is_no_variable, known_names, low_degree, names_pass, number_fits, operand_places, operands_eliminate, operands_fit, operands_low, order_eliminates, rank_fits, right_kinds, same_rank, value_operands}
 use Rattle.script_parse.specs.Refusals.{HasElimOutside, HasGreatDegree, HasOtherFactor, HasOtherImages, HasOtherKind, HasOtherOperands, HasOtherRank, HasUnknownName, IsNamed, LacksRing, StandsInPoly, length_named, rank_named}
 use Rattle.script_parse.specs.declared.named.NameInfo.{NameInfo}
 use Rattle.script_parse.proofs.Ranks.{length_low, length_other, low_not, not_within, rank_above, vectors_fit, vectors_other, within_not}
@@ -134,19 +134,19 @@ operand_places_are (elimination value count) = refl
 operand_places_are (syzygies value) = refl
 operand_places_are (preimage value images) = refl
 
-places_are : (w : Written) (head : Head) → head_of w ≡ Some head → places head ≡ value_places w
+places_are : (w : Written) (head : Head) → head_of w ≡ Some head → value_operands head ≡ value_places w
 places_are nothing head e = absurd cc
 places_are (ring_line r) head e = absurd cc
-places_are (show_line p) head e = let is : heads.Show ≡ head = same_Some _ _ e in ap places (sym is)
-places_are (ideal_line given ps) head e = let is : heads.Ideal given ≡ head = same_Some _ _ e in ap places (sym is)
-places_are (module_line given rank vectors) head e = let is : heads.Module given rank (shape_behind Empty vectors) ≡ head = same_Some _ _ e in ap places (sym is)
-places_are (let_line given operation) head e = let is : heads.Let given (operands_of operation) ≡ head = same_Some _ _ e in ap places (sym is) ∙ operand_places_are operation
-places_are (ask_line question value) head e = let is : heads.Ask question value ≡ head = same_Some _ _ e in ap places (sym is)
-places_are (divide_line division value ps) head e = let is : heads.Divide division value ≡ head = same_Some _ _ e in ap places (sym is)
-places_are (equal_line left right) head e = let is : heads.Equal left right ≡ head = same_Some _ _ e in ap places (sym is)
-places_are (change_line value order) head e = let is : heads.Change value order ≡ head = same_Some _ _ e in ap places (sym is)
-places_are (express_line p images) head e = let is : heads.Express ≡ head = same_Some _ _ e in ap places (sym is)
-places_are (ext_line value count) head e = let is : heads.Ext value count ≡ head = same_Some _ _ e in ap places (sym is)
+places_are (show_line p) head e = let is : heads.Show ≡ head = same_Some _ _ e in ap value_operands (sym is)
+places_are (ideal_line given ps) head e = let is : heads.Ideal given ≡ head = same_Some _ _ e in ap value_operands (sym is)
+places_are (module_line given rank vectors) head e = let is : heads.Module given rank (shape_behind Empty vectors) ≡ head = same_Some _ _ e in ap value_operands (sym is)
+places_are (let_line given operation) head e = let is : heads.Let given (operands_of operation) ≡ head = same_Some _ _ e in ap value_operands (sym is) ∙ operand_places_are operation
+places_are (ask_line question value) head e = let is : heads.Ask question value ≡ head = same_Some _ _ e in ap value_operands (sym is)
+places_are (divide_line division value ps) head e = let is : heads.Divide division value ≡ head = same_Some _ _ e in ap value_operands (sym is)
+places_are (equal_line left right) head e = let is : heads.Equal left right ≡ head = same_Some _ _ e in ap value_operands (sym is)
+places_are (change_line value order) head e = let is : heads.Change value order ≡ head = same_Some _ _ e in ap value_operands (sym is)
+places_are (express_line p images) head e = let is : heads.Express ≡ head = same_Some _ _ e in ap value_operands (sym is)
+places_are (ext_line value count) head e = let is : heads.Ext value count ≡ head = same_Some _ _ e in ap value_operands (sym is)
 
 given_are : (w : Written) (head : Head) → head_of w ≡ Some head → given_name head ≡ given_by w
 given_are nothing head e = absurd cc
@@ -240,7 +240,7 @@ no_other_operands ring names line (syzygies value) count n e h = length_low (len
 no_other_operands ring names line (preimage value images) count n e h = images_same ring images count n e h
 
 outside_of : (ring : Ring) (line : List ℕ) (given : Token) (operation : WrittenOperation) → operands_eliminate (length ring.vars) line (operands_of operation) ≡ false → LacksRing (Some ring) line (let_line given operation)
-outside_of ring line given (elimination value count) e = inr (not_within (length ring.vars) (value_of line count) e)
+outside_of ring line given (elimination value count) e = inr (not_within (length ring.vars) (numeral_value line count) e)
 outside_of ring line given (of_two word left right) e = absurd cc
 outside_of ring line given (of_polynomial word value p) e = absurd cc
 outside_of ring line given (syzygies value) e = absurd cc
@@ -248,7 +248,7 @@ outside_of ring line given (preimage value images) e = absurd cc
 
 not_outside : (ring : Ring) (line : List ℕ) (given : Token) (operation : WrittenOperation) → operands_eliminate (length ring.vars) line (operands_of operation) ≡ true → LacksRing (Some ring) line (let_line given operation) → ⊥
 not_outside ring line given (elimination value count) e (inl h) = absurd cc
-not_outside ring line given (elimination value count) e (inr h) = within_not (length ring.vars) (value_of line count) e h
+not_outside ring line given (elimination value count) e (inr h) = within_not (length ring.vars) (numeral_value line count) e h
 not_outside ring line given (of_two word left right) e h = absurd cc
 not_outside ring line given (of_polynomial word value p) e h = absurd cc
 not_outside ring line given (syzygies value) e h = absurd cc
@@ -270,7 +270,7 @@ other_rank_of ring names line (ideal_line given ps) head count e n f =
     let is : head ≡ heads.Ideal given = sym (same_Some _ _ e) in many count (length ps) n (subst (λ h. rank_fits (length ring.vars) names line h count ≡ false) is f)
 other_rank_of ring names line (module_line given rank vectors) head count e n f =
     let is : head ≡ heads.Module given rank (shape_behind Empty vectors) = sym (same_Some _ _ e) in
-    vectors_other (value_of line rank) vectors count n (subst (λ h. rank_fits (length ring.vars) names line h count ≡ false) is f)
+    vectors_other (numeral_value line rank) vectors count n (subst (λ h. rank_fits (length ring.vars) names line h count ≡ false) is f)
 other_rank_of ring names line (let_line given operation) head count e n f =
     let is : head ≡ heads.Let given (operands_of operation) = sym (same_Some _ _ e) in
     other_operands_of ring names line operation count n (subst (λ h. rank_fits (length ring.vars) names line h count ≡ false) is f)
@@ -297,7 +297,7 @@ right_rank_of ring names line (ideal_line given ps) head count e n f h =
     let is : head ≡ heads.Ideal given = sym (same_Some _ _ e) in few count (length ps) n (subst (λ d. rank_fits (length ring.vars) names line d count ≡ true) is f) h
 right_rank_of ring names line (module_line given rank vectors) head count e n f h =
     let is : head ≡ heads.Module given rank (shape_behind Empty vectors) = sym (same_Some _ _ e) in
-    vectors_fit (value_of line rank) vectors count n (subst (λ d. rank_fits (length ring.vars) names line d count ≡ true) is f) h
+    vectors_fit (numeral_value line rank) vectors count n (subst (λ d. rank_fits (length ring.vars) names line d count ≡ true) is f) h
 right_rank_of ring names line (let_line given operation) head count e n f h =
     let is : head ≡ heads.Let given (operands_of operation) = sym (same_Some _ _ e) in
     no_other_operands ring names line operation count n (subst (λ d. rank_fits (length ring.vars) names line d count ≡ true) is f) h
@@ -347,12 +347,12 @@ right_factor names line (let_line given operation) head e f h =
 right_factor names line _ head e f h = h
 
 order_outside : (ring : Ring) (line : List ℕ) (order : OrderName) → order_eliminates (length ring.vars) line order ≡ false → HasElimOutside (Some ring) line order
-order_outside ring line (Elim k) e = not_within (length ring.vars) (value_of line k) e
+order_outside ring line (Elim k) e = not_within (length ring.vars) (numeral_value line k) e
 order_outside ring line Lex e = absurd cc
 order_outside ring line Grevlex e = absurd cc
 
 order_not_outside : (ring : Ring) (line : List ℕ) (order : OrderName) → order_eliminates (length ring.vars) line order ≡ true → HasElimOutside (Some ring) line order → ⊥
-order_not_outside ring line (Elim k) e h = within_not (length ring.vars) (value_of line k) e h
+order_not_outside ring line (Elim k) e h = within_not (length ring.vars) (numeral_value line k) e h
 order_not_outside ring line Lex e h = h
 order_not_outside ring line Grevlex e h = h
 
@@ -378,7 +378,7 @@ outside ring line (change_line value order) head e f =
 outside ring line (express_line p images) head e f =
     let is : head ≡ heads.Express = sym (same_Some _ _ e) in let no : true ≡ false = subst (λ h. number_fits (length ring.vars) line h ≡ false) is f in absurd (false≢true (sym no))
 outside ring line (ext_line value count) head e f =
-    let is : head ≡ heads.Ext value count = sym (same_Some _ _ e) in inr (leb-false (value_of line count) (length ring.vars) (subst (λ h. number_fits (length ring.vars) line h ≡ false) is f))
+    let is : head ≡ heads.Ext value count = sym (same_Some _ _ e) in inr (leb-false (numeral_value line count) (length ring.vars) (subst (λ h. number_fits (length ring.vars) line h ≡ false) is f))
 
 inside : (ring : Ring) (line : List ℕ) (w : Written) (head : Head) → head_of w ≡ Some head → number_fits (length ring.vars) line head ≡ true → LacksRing (Some ring) line w → ⊥
 inside ring line (let_line given operation) head e f h =
@@ -389,13 +389,13 @@ inside ring line (change_line value order) head e f (inr h) =
 inside ring line (ext_line value count) head e f (inl h) = absurd cc
 inside ring line (ext_line value count) head e f (inr h) =
     let is : head ≡ heads.Ext value count = sym (same_Some _ _ e) in
-    let le : value_of line count ≤ length ring.vars = leb-true (value_of line count) (length ring.vars) (subst (λ d. number_fits (length ring.vars) line d ≡ true) is f) in omega (arith, h)
+    let le : numeral_value line count ≤ length ring.vars = leb-true (numeral_value line count) (length ring.vars) (subst (λ d. number_fits (length ring.vars) line d ≡ true) is f) in omega (arith, h)
 inside ring line nothing head e f h = h
 inside ring line (ring_line r) head e f h = absurd cc
 inside ring line _ head e f h = absurd cc
 
-low_poly : (ring : Ring) (line : List ℕ) (p : Poly) → low_degree ring line (steps p) ≡ is_some (formal_degree (weight_of ring line) (value_of line) p)
-low_poly ring line p = ap is_some (degree_of_steps ring line (steps p) p (formal_degree (weight_of ring line) (value_of line) p) refl refl)
+low_poly : (ring : Ring) (line : List ℕ) (p : Poly) → low_degree ring line (steps p) ≡ is_some (formal_degree (weight_of ring line) (numeral_value line) p)
+low_poly ring line p = ap is_some (degree_of_steps ring line (steps p) p (formal_degree (weight_of ring line) (numeral_value line) p) refl refl)
 
 no_number : (o : Option ℕ) → is_some o ≡ false → o ≡ None
 no_number None e = refl
@@ -429,10 +429,10 @@ module _ (ring : Ring) (names : List NameInfo) (line : List ℕ) (w : Written) (
   each_name : (test : List ℕ → Bool) → list_all (λ v. names_pass test line v.items) pieces ≡ true → (t : Token) → StandsInPoly w t → test (text_of line t) ≡ true
   each_name test e t s = all_pass (λ t. test (text_of line t)) (names_in (spelling s.0)) t (all_pass (names_test test line) (polys_of w) s.0 (sym (in_pieces test) ∙ e) s.1) s.2
 
-  in_place : (t : Token) → Contains (places head) t → Contains (value_places w) t
+  in_place : (t : Token) → Contains (value_operands head) t → Contains (value_places w) t
   in_place t c = subst (λ l. Contains l t) (places_are w head is.head_is) c
 
-  of_place : (t : Token) → Contains (value_places w) t → Contains (places head) t
+  of_place : (t : Token) → Contains (value_places w) t → Contains (value_operands head) t
   of_place t c = subst (λ l. Contains l t) (sym (places_are w head is.head_is)) c
 
   unknown : (text : List ℕ) → known text ≡ false → (Contains vars text → ⊥) × (IsNamed names text → ⊥)
@@ -460,18 +460,18 @@ module _ (ring : Ring) (names : List NameInfo) (line : List ℕ) (w : Written) (
   not_value text e = no_rank (rank_named names text) (not_true (is_some (rank_named names text)) e)
 
   pub unknown_name : known_names vars names line head pieces ≡ false → HasUnknownName (Some ring) names line w
-  unknown_name e = by_parts (one_false (list_all (λ t. known (text_of line t)) (places head) && list_all (λ t. no_variable (text_of line t)) (given_name head)) (list_all (λ v. names_pass known line v.items) pieces) e)
+  unknown_name e = by_parts (one_false (list_all (λ t. known (text_of line t)) (value_operands head) && list_all (λ t. no_variable (text_of line t)) (given_name head)) (list_all (λ v. names_pass known line v.items) pieces) e)
     where
-      by_head : (list_all (λ t. known (text_of line t)) (places head) ≡ false) ⊎ (list_all (λ t. no_variable (text_of line t)) (given_name head) ≡ false) → HasUnknownName (Some ring) names line w
+      by_head : (list_all (λ t. known (text_of line t)) (value_operands head) ≡ false) ⊎ (list_all (λ t. no_variable (text_of line t)) (given_name head) ≡ false) → HasUnknownName (Some ring) names line w
       by_head (inl h) =
-          let f = some_fails (λ t. known (text_of line t)) (places head) h in
+          let f = some_fails (λ t. known (text_of line t)) (value_operands head) h in
           let u = unknown (text_of line f.0) f.2 in inl (f.0, inr (in_place f.0 f.1), u.0, u.1)
       by_head (inr h) =
           let f = some_fails (λ t. no_variable (text_of line t)) (given_name head) h in
           inr (f.0, subst (λ l. Contains l f.0) (given_are w head is.head_is) f.1, variable (text_of line f.0) f.2)
 
-      by_parts : ((list_all (λ t. known (text_of line t)) (places head) && list_all (λ t. no_variable (text_of line t)) (given_name head)) ≡ false) ⊎ (list_all (λ v. names_pass known line v.items) pieces ≡ false) → HasUnknownName (Some ring) names line w
-      by_parts (inl h) = by_head (one_false (list_all (λ t. known (text_of line t)) (places head)) (list_all (λ t. no_variable (text_of line t)) (given_name head)) h)
+      by_parts : ((list_all (λ t. known (text_of line t)) (value_operands head) && list_all (λ t. no_variable (text_of line t)) (given_name head)) ≡ false) ⊎ (list_all (λ v. names_pass known line v.items) pieces ≡ false) → HasUnknownName (Some ring) names line w
+      by_parts (inl h) = by_head (one_false (list_all (λ t. known (text_of line t)) (value_operands head)) (list_all (λ t. no_variable (text_of line t)) (given_name head)) h)
       by_parts (inr h) =
           let f = some_name known h in
           let u = unknown (text_of line f.0) f.2 in inl (f.0, inl f.1, u.0, u.1)
@@ -479,15 +479,15 @@ module _ (ring : Ring) (names : List NameInfo) (line : List ℕ) (w : Written) (
   pub each_known : known_names vars names line head pieces ≡ true → HasUnknownName (Some ring) names line w → ⊥
   each_known e = go
     where
-      parts : ((list_all (λ t. known (text_of line t)) (places head) && list_all (λ t. no_variable (text_of line t)) (given_name head)) ≡ true) × (list_all (λ v. names_pass known line v.items) pieces ≡ true)
-      parts = both_true (list_all (λ t. known (text_of line t)) (places head) && list_all (λ t. no_variable (text_of line t)) (given_name head)) (list_all (λ v. names_pass known line v.items) pieces) e
+      parts : ((list_all (λ t. known (text_of line t)) (value_operands head) && list_all (λ t. no_variable (text_of line t)) (given_name head)) ≡ true) × (list_all (λ v. names_pass known line v.items) pieces ≡ true)
+      parts = both_true (list_all (λ t. known (text_of line t)) (value_operands head) && list_all (λ t. no_variable (text_of line t)) (given_name head)) (list_all (λ v. names_pass known line v.items) pieces) e
 
-      front : (list_all (λ t. known (text_of line t)) (places head) ≡ true) × (list_all (λ t. no_variable (text_of line t)) (given_name head) ≡ true)
-      front = both_true (list_all (λ t. known (text_of line t)) (places head)) (list_all (λ t. no_variable (text_of line t)) (given_name head)) parts.0
+      front : (list_all (λ t. known (text_of line t)) (value_operands head) ≡ true) × (list_all (λ t. no_variable (text_of line t)) (given_name head) ≡ true)
+      front = both_true (list_all (λ t. known (text_of line t)) (value_operands head)) (list_all (λ t. no_variable (text_of line t)) (given_name head)) parts.0
 
       go : HasUnknownName (Some ring) names line w → ⊥
       go (inl (t, inl s, no_var, no_val)) = not_unknown (text_of line t) (each_name known parts.1 t s) no_var no_val
-      go (inl (t, inr c, no_var, no_val)) = not_unknown (text_of line t) (all_pass (λ t. known (text_of line t)) (places head) t front.0 (of_place t c)) no_var no_val
+      go (inl (t, inr c, no_var, no_val)) = not_unknown (text_of line t) (all_pass (λ t. known (text_of line t)) (value_operands head) t front.0 (of_place t c)) no_var no_val
       go (inr (t, c, v)) = not_variable (text_of line t) (all_pass (λ t. no_variable (text_of line t)) (given_name head) t front.1 (subst (λ l. Contains l t) (sym (given_are w head is.head_is)) c)) v
 
   pub lacks_ring : number_fits (length vars) line head ≡ false → LacksRing (Some ring) line w
@@ -497,30 +497,30 @@ module _ (ring : Ring) (names : List NameInfo) (line : List ℕ) (w : Written) (
   has_ring e = inside ring line w head is.head_is e
 
   pub other_kind : right_kinds vars names line head pieces ≡ false → HasOtherKind (Some ring) names line w
-  other_kind e = by_parts (one_false (list_all (λ t. no_variable (text_of line t)) (places head) && factor_fits names line head) (list_all (λ v. names_pass no_value line v.items) pieces) e)
+  other_kind e = by_parts (one_false (list_all (λ t. no_variable (text_of line t)) (value_operands head) && factor_fits names line head) (list_all (λ v. names_pass no_value line v.items) pieces) e)
     where
-      by_head : (list_all (λ t. no_variable (text_of line t)) (places head) ≡ false) ⊎ (factor_fits names line head ≡ false) → HasOtherKind (Some ring) names line w
+      by_head : (list_all (λ t. no_variable (text_of line t)) (value_operands head) ≡ false) ⊎ (factor_fits names line head ≡ false) → HasOtherKind (Some ring) names line w
       by_head (inl h) =
-          let f = some_fails (λ t. no_variable (text_of line t)) (places head) h in
+          let f = some_fails (λ t. no_variable (text_of line t)) (value_operands head) h in
           inr (inl (f.0, in_place f.0 f.1, variable (text_of line f.0) f.2))
       by_head (inr h) = inr (inr (other_factor names line w head is.head_is h))
 
-      by_parts : ((list_all (λ t. no_variable (text_of line t)) (places head) && factor_fits names line head) ≡ false) ⊎ (list_all (λ v. names_pass no_value line v.items) pieces ≡ false) → HasOtherKind (Some ring) names line w
-      by_parts (inl h) = by_head (one_false (list_all (λ t. no_variable (text_of line t)) (places head)) (factor_fits names line head) h)
+      by_parts : ((list_all (λ t. no_variable (text_of line t)) (value_operands head) && factor_fits names line head) ≡ false) ⊎ (list_all (λ v. names_pass no_value line v.items) pieces ≡ false) → HasOtherKind (Some ring) names line w
+      by_parts (inl h) = by_head (one_false (list_all (λ t. no_variable (text_of line t)) (value_operands head)) (factor_fits names line head) h)
       by_parts (inr h) = let f = some_name no_value h in inl (f.0, f.1, value (text_of line f.0) f.2)
 
   pub each_right : right_kinds vars names line head pieces ≡ true → HasOtherKind (Some ring) names line w → ⊥
   each_right e = go
     where
-      parts : ((list_all (λ t. no_variable (text_of line t)) (places head) && factor_fits names line head) ≡ true) × (list_all (λ v. names_pass no_value line v.items) pieces ≡ true)
-      parts = both_true (list_all (λ t. no_variable (text_of line t)) (places head) && factor_fits names line head) (list_all (λ v. names_pass no_value line v.items) pieces) e
+      parts : ((list_all (λ t. no_variable (text_of line t)) (value_operands head) && factor_fits names line head) ≡ true) × (list_all (λ v. names_pass no_value line v.items) pieces ≡ true)
+      parts = both_true (list_all (λ t. no_variable (text_of line t)) (value_operands head) && factor_fits names line head) (list_all (λ v. names_pass no_value line v.items) pieces) e
 
-      front : (list_all (λ t. no_variable (text_of line t)) (places head) ≡ true) × (factor_fits names line head ≡ true)
-      front = both_true (list_all (λ t. no_variable (text_of line t)) (places head)) (factor_fits names line head) parts.0
+      front : (list_all (λ t. no_variable (text_of line t)) (value_operands head) ≡ true) × (factor_fits names line head ≡ true)
+      front = both_true (list_all (λ t. no_variable (text_of line t)) (value_operands head)) (factor_fits names line head) parts.0
 
       go : HasOtherKind (Some ring) names line w → ⊥
       go (inl (t, s, v)) = not_value (text_of line t) (each_name no_value parts.1 t s) v
-      go (inr (inl (t, c, v))) = not_variable (text_of line t) (all_pass (λ t. no_variable (text_of line t)) (places head) t front.0 (of_place t c)) v
+      go (inr (inl (t, c, v))) = not_variable (text_of line t) (all_pass (λ t. no_variable (text_of line t)) (value_operands head) t front.0 (of_place t c)) v
       go (inr (inr h)) = right_factor names line w head is.head_is front.1 h
 
   count : length pieces ≡ length (polys_of w)
@@ -532,15 +532,15 @@ module _ (ring : Ring) (names : List NameInfo) (line : List ℕ) (w : Written) (
   pub right_rank : rank_fits (length vars) names line head (length pieces) ≡ true → HasOtherRank (Some ring) names line w → ⊥
   right_rank e = right_rank_of ring names line w head (length pieces) is.head_is count e
 
-  degrees_in : list_all (λ v. low_degree ring line v.items) pieces ≡ list_all (λ p. is_some (formal_degree (weight_of ring line) (value_of line) p)) (polys_of w)
-  degrees_in = same_tests (low_degree ring line) (λ p. is_some (formal_degree (weight_of ring line) (value_of line) p)) (low_poly ring line) pieces (polys_of w) is.steps_are
+  degrees_in : list_all (λ v. low_degree ring line v.items) pieces ≡ list_all (λ p. is_some (formal_degree (weight_of ring line) (numeral_value line) p)) (polys_of w)
+  degrees_in = same_tests (low_degree ring line) (λ p. is_some (formal_degree (weight_of ring line) (numeral_value line) p)) (low_poly ring line) pieces (polys_of w) is.steps_are
 
   pub great_degree : list_all (λ v. low_degree ring line v.items) pieces ≡ false → HasGreatDegree (Some ring) line w
   great_degree e =
-      let f = some_fails (λ p. is_some (formal_degree (weight_of ring line) (value_of line) p)) (polys_of w) (sym degrees_in ∙ e) in
-      (f.0, f.1, no_number (formal_degree (weight_of ring line) (value_of line) f.0) f.2)
+      let f = some_fails (λ p. is_some (formal_degree (weight_of ring line) (numeral_value line) p)) (polys_of w) (sym degrees_in ∙ e) in
+      (f.0, f.1, no_number (formal_degree (weight_of ring line) (numeral_value line) f.0) f.2)
 
   pub low_degrees : list_all (λ v. low_degree ring line v.items) pieces ≡ true → HasGreatDegree (Some ring) line w → ⊥
   low_degrees e h =
-      let low = all_pass (λ p. is_some (formal_degree (weight_of ring line) (value_of line) p)) (polys_of w) h.0 (sym degrees_in ∙ e) h.1 in
-      let none : is_some (formal_degree (weight_of ring line) (value_of line) h.0) ≡ false = ap is_some h.2 in absurd cc
+      let low = all_pass (λ p. is_some (formal_degree (weight_of ring line) (numeral_value line) p)) (polys_of w) h.0 (sym degrees_in ∙ e) h.1 in
+      let none : is_some (formal_degree (weight_of ring line) (numeral_value line) h.0) ≡ false = ap is_some h.2 in absurd cc

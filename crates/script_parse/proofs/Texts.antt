@@ -16,7 +16,7 @@ use Rattle.script_tokens.specs.Cuts.{HasTokens, HaveTexts, IsToken, Passes}
 use Rattle.script_tokens.proofs.Cuts.{one_cut}
 use Rattle.script_tokens.proofs.Texts.{have_texts}
 use Rattle.poly_grammar.specs.Lexemes.{Lexeme, close_bracket, comma, lexeme, lexeme_as, name, names_in, number, numbers_in}
-use Rattle.poly_grammar.specs.Numerals.{FitsAs, NumeralFits, number_of, text_of, value_of}
+use Rattle.poly_grammar.specs.Numerals.{FitsAs, NumeralFits, number_of, numeral_value, text_of}
 use Rattle.poly_grammar.specs.Steps.{numbers_of_steps, steps}
 use Rattle.poly_grammar.specs.Trees.{Poly, Reads, spelling}
 use Rattle.poly_grammar.specs.declared.step.PolyStep.{PolyStep}
@@ -59,11 +59,11 @@ names_ascii line [] h = tt
 names_ascii line (t ∷ ts) h = name_joins line t.kind t (map lexeme ts) h.0 (names_ascii line ts h.1)
 
 -- the numbers among tokens fit
-number_joins : (line : List ℕ) (k : TokenKind) (t : Token) (xs : List Lexeme) → FitsAs k (text_of line t) → AllByRecursion (λ u. value_of line u < 2 ^ 128) (numbers_in xs) → AllByRecursion (λ u. value_of line u < 2 ^ 128) (numbers_in (lexeme_as k t ∷ xs))
+number_joins : (line : List ℕ) (k : TokenKind) (t : Token) (xs : List Lexeme) → FitsAs k (text_of line t) → AllByRecursion (λ u. numeral_value line u < 2 ^ 128) (numbers_in xs) → AllByRecursion (λ u. numeral_value line u < 2 ^ 128) (numbers_in (lexeme_as k t ∷ xs))
 number_joins line kinds.Number t xs h rest = (h, rest)
 number_joins line _ t xs h rest = rest
 
-numbers_fit : (line : List ℕ) (ts : List Token) → AllByRecursion (NumeralFits line) ts → AllByRecursion (λ u. value_of line u < 2 ^ 128) (numbers_in (map lexeme ts))
+numbers_fit : (line : List ℕ) (ts : List Token) → AllByRecursion (NumeralFits line) ts → AllByRecursion (λ u. numeral_value line u < 2 ^ 128) (numbers_in (map lexeme ts))
 numbers_fit line [] h = tt
 numbers_fit line (t ∷ ts) h = number_joins line t.kind t (map lexeme ts) h.0 (numbers_fit line ts h.1)
 
@@ -226,7 +226,7 @@ sound line found w forms.Nothing cut h is fits = tt
 sound line found w (forms.Ring form) cut h is fits = sound_ring line found w form cut h is
 sound line found w (forms.Line head pieces) cut h is fits = (
   head_among (λ u. IsAscii (text_of line u)) line (map lexeme found) w head is.head_is h (names_ascii line found (have_texts line found cut)),
-  in_pieces (λ u. value_of line u < 2 ^ 128) pieces.items (polys_of w) is.steps_are (in_line (λ u. value_of line u < 2 ^ 128) line (map lexeme found) w h (numbers_fit line found fits)),
+  in_pieces (λ u. numeral_value line u < 2 ^ 128) pieces.items (polys_of w) is.steps_are (in_line (λ u. numeral_value line u < 2 ^ 128) line (map lexeme found) w h (numbers_fit line found fits)),
 )
 
 -- a number that does not fit
@@ -239,7 +239,7 @@ great_as kinds.Number text = by_cases (cases_lt (number_of text) (2 ^ 128))
 great_as _ text = inl tt
 
 abbrev Great : List ℕ → List Token → Type 0
-Great line ts = (t : Token) × Contains ts t × (t.kind ≡ kinds.Number) × (2 ^ 128 ≤ value_of line t)
+Great line ts = (t : Token) × Contains ts t × (t.kind ≡ kinds.Number) × (2 ^ 128 ≤ numeral_value line t)
 
 some_great : (line : List ℕ) (ts : List Token) → (AllByRecursion (NumeralFits line) ts → ⊥) → Great line ts
 some_great line [] none = absurd (none tt)
@@ -269,7 +269,7 @@ no_great line found cut fits g =
     let same : found ≡ g.found = one_cut line found g.found cut g.cut in
     let all = subst (λ l. AllByRecursion (NumeralFits line) l) same fits in
     let one = all_at (NumeralFits line) g.found g.numeral g.stands.0 g.stands.1 g.stands.2 all in
-    not_both (value_of line g.numeral) (2 ^ 128) (fits_number g.numeral.kind (text_of line g.numeral) g.is_number one) g.great
+    not_both (numeral_value line g.numeral) (2 ^ 128) (fits_number g.numeral.kind (text_of line g.numeral) g.is_number one) g.great
 
 -- names that are ASCII are their own texts
 pub own_texts : (line : List ℕ) (ts : List Token) → AllByRecursion (λ t. IsAscii (text_of line t)) ts → map (λ t. utf8_lossy (text_of line t)) ts ≡ map (text_of line) ts

@@ -5,9 +5,9 @@ use Rattle.std.specs.List.{AllByRecursion, list_all}
 use Rattle.std.specs.Option.{option_map}
 use Rattle.std.specs.Prelude.{is_some, not, ◌&&◌}
 use Rattle.script_tokens.specs.declared.token.Token.{Token}
-use Rattle.poly_grammar.specs.Algebras.{push, top, worth_of_steps, worths}
+use Rattle.poly_grammar.specs.Algebras.{push, stack_top, worth_of_steps, worths}
 use Rattle.poly_grammar.specs.Degrees.{bounded, degrees, formal_degree}
-use Rattle.poly_grammar.specs.Numerals.{text_of, value_of}
+use Rattle.poly_grammar.specs.Numerals.{numeral_value, text_of}
 use Rattle.poly_grammar.specs.Steps.{numbers_of_steps, steps}
 use Rattle.poly_grammar.specs.Trees.{Poly}
 use Rattle.poly_grammar.specs.declared.step.PolyStep.{PolyStep}
@@ -30,27 +30,27 @@ use Rattle.term_lists.specs.declared.ring.Ring.{Ring}
 use Rattle.term_lists.proofs.Merges.{sum_of-append}
 use Rattle.term_lists.proofs.NormalVectors.{vector_positions}
 use Rattle.term_lists.proofs.Scaling.{take_item}
-use Rattle.poly_value.specs.Values.{degrees_of, name_weight, place_of, polynomials, polynomials_of}
+use Rattle.poly_value.specs.Values.{line_degrees, name_weight, place_of, polynomials, polynomials_of}
 use Rattle.script_parse.specs.Tests.{AreWorths, HasEntryTerms, IsWorkable, IsWorth, moved_to, knows, low_degree}
 use Rattle.script_parse.specs.Statements.{entries_from}
 
 -- where the degrees can be worked out and the names are known, so can the polynomials
 module _ (n p : ℕ) (vars : List (List ℕ)) (line : List ℕ) (weight : Token → ℕ) where
   abbrev Runs : List PolyStep → List (FormalSum n) → List ℕ → Type 0
-  Runs xs vs ds = (left : List (FormalSum n)) × (worths (polynomials n p vars (text_of line) (value_of line)) xs vs ≡ Some left) × (length left ≡ length ds)
+  Runs xs vs ds = (left : List (FormalSum n)) × (worths (polynomials n p vars (text_of line) (numeral_value line)) xs vs ≡ Some left) × (length left ≡ length ds)
 
   abbrev Goes : List PolyStep → Type 0
-  Goes xs = (ds left : List ℕ) (vs : List (FormalSum n)) → length vs ≡ length ds → knows vars line xs ≡ true → worths (degrees weight (value_of line)) xs ds ≡ Some left → Runs xs vs left
+  Goes xs = (ds left : List ℕ) (vs : List (FormalSum n)) → length vs ≡ length ds → knows vars line xs ≡ true → worths (degrees weight (numeral_value line)) xs ds ≡ Some left → Runs xs vs left
 
   pushed : (xs : List PolyStep) (o : Option ℕ) (ds left : List ℕ) (v : FormalSum n) (vs : List (FormalSum n)) → Goes xs → length vs ≡ length ds → knows vars line xs ≡ true
-      → option_and_then (worths (degrees weight (value_of line)) xs) (push ds o) ≡ Some left → Runs xs (v ∷ vs) left
+      → option_and_then (worths (degrees weight (numeral_value line)) xs) (push ds o) ≡ Some left → Runs xs (v ∷ vs) left
   pushed xs None ds left v vs go e known h = absurd cc
   pushed xs (Some d) ds left v vs go e known h = go (d ∷ ds) left (v ∷ vs) (omega (arith, e)) known h
 
   named :
       (xs : List PolyStep) (o w : Option ℕ) (f : ℕ → FormalSum n) (ds left : List ℕ) (vs : List (FormalSum n)) → Goes xs → length vs ≡ length ds → is_some o ≡ true → knows vars line xs ≡ true
-      → option_and_then (worths (degrees weight (value_of line)) xs) (push ds w) ≡ Some left
-      → (end : List (FormalSum n)) × (option_and_then (worths (polynomials n p vars (text_of line) (value_of line)) xs) (push vs (option_map f o)) ≡ Some end) × (length end ≡ length left)
+      → option_and_then (worths (degrees weight (numeral_value line)) xs) (push ds w) ≡ Some left
+      → (end : List (FormalSum n)) × (option_and_then (worths (polynomials n p vars (text_of line) (numeral_value line)) xs) (push vs (option_map f o)) ≡ Some end) × (length end ≡ length left)
   named xs None w f ds left vs go e some known h = absurd cc
   named xs (Some i) None f ds left vs go e some known h = absurd cc
   named xs (Some i) (Some d) f ds left vs go e some known h = go (d ∷ ds) left (f i ∷ vs) (omega (arith, e)) known h
@@ -67,7 +67,7 @@ module _ (n p : ℕ) (vars : List (List ℕ)) (line : List ℕ) (weight : Token 
       named xs (place_of vars (text_of line t)) (bounded (weight t)) _ ds left vs (goes xs) e k.0 k.1 h
   goes (Power t ∷ xs) [] left vs e known h = absurd cc
   goes (Power t ∷ xs) (d ∷ ds) left [] e known h = absurd (omega (arith, e))
-  goes (Power t ∷ xs) (d ∷ ds) left (v ∷ vs) e known h = pushed xs (bounded (d * value_of line t)) ds left _ vs (goes xs) (omega (arith, e)) known h
+  goes (Power t ∷ xs) (d ∷ ds) left (v ∷ vs) e known h = pushed xs (bounded (d * numeral_value line t)) ds left _ vs (goes xs) (omega (arith, e)) known h
   goes (Multiply ∷ xs) [] left vs e known h = absurd cc
   goes (Multiply ∷ xs) (d ∷ []) left vs e known h = absurd cc
   goes (Multiply ∷ xs) (d ∷ c ∷ ds) left [] e known h = absurd (omega (arith, e))
@@ -87,29 +87,29 @@ module _ (n p : ℕ) (vars : List (List ℕ)) (line : List ℕ) (weight : Token 
   goes (Negate ∷ xs) (d ∷ ds) left [] e known h = absurd (omega (arith, e))
   goes (Negate ∷ xs) (d ∷ ds) left (v ∷ vs) e known h = goes xs (d ∷ ds) left (_ ∷ vs) (omega (arith, e)) known h
 
-  on_top : (o : Option (List ℕ)) (d : ℕ) → option_and_then top o ≡ Some d → (rest : List ℕ) × (o ≡ Some (d ∷ rest))
+  on_top : (o : Option (List ℕ)) (d : ℕ) → option_and_then stack_top o ≡ Some d → (rest : List ℕ) × (o ≡ Some (d ∷ rest))
   on_top None d h = absurd cc
   on_top (Some []) d h = absurd cc
   on_top (Some (c ∷ rest)) d h = let same : c ≡ d = cc (h) in (rest, ap (λ x. Some (x ∷ rest)) same)
 
-  has_top : (o : Option (List (FormalSum n))) (left : List (FormalSum n)) (k : ℕ) → o ≡ Some left → length left ≡ suc k → (x : FormalSum n) × (option_and_then top o ≡ Some x)
+  has_top : (o : Option (List (FormalSum n))) (left : List (FormalSum n)) (k : ℕ) → o ≡ Some left → length left ≡ suc k → (x : FormalSum n) × (option_and_then stack_top o ≡ Some x)
   has_top o [] k e l = absurd (omega (arith, l))
   has_top o (x ∷ rest) k e l = (x, rw e refl)
 
-  pub has_worth : (xs : List PolyStep) (d : ℕ) → knows vars line xs ≡ true → worth_of_steps (degrees weight (value_of line)) xs ≡ Some d → (x : FormalSum n) × (worth_of_steps (polynomials n p vars (text_of line) (value_of line)) xs ≡ Some x)
+  pub has_worth : (xs : List PolyStep) (d : ℕ) → knows vars line xs ≡ true → worth_of_steps (degrees weight (numeral_value line)) xs ≡ Some d → (x : FormalSum n) × (worth_of_steps (polynomials n p vars (text_of line) (numeral_value line)) xs ≡ Some x)
   has_worth xs d known h =
-      let t = on_top (worths (degrees weight (value_of line)) xs []) d h in
+      let t = on_top (worths (degrees weight (numeral_value line)) xs []) d h in
       let r = goes xs [] (d ∷ t.0) [] refl known t.1 in
-      has_top (worths (polynomials n p vars (text_of line) (value_of line)) xs []) r.0 (length t.0) r.1 (r.2)
+      has_top (worths (polynomials n p vars (text_of line) (numeral_value line)) xs []) r.0 (length t.0) r.1 (r.2)
 
 -- the weights of a line's names
 abbrev pub weight_of : Ring → List ℕ → Token → ℕ
 weight_of ring line t = name_weight ring (text_of line t)
 
 pub degree_of_steps :
-    (ring : Ring) (line : List ℕ) (xs : List PolyStep) (p : Poly) (o : Option ℕ) → xs ≡ steps p → o ≡ formal_degree (weight_of ring line) (value_of line) p
-    → worth_of_steps (degrees_of ring line) xs ≡ o
-degree_of_steps ring line xs p o is e = ap (worth_of_steps (degrees_of ring line)) is ∙ worth_is_left (degrees_of ring line) p ∙ sym e
+    (ring : Ring) (line : List ℕ) (xs : List PolyStep) (p : Poly) (o : Option ℕ) → xs ≡ steps p → o ≡ formal_degree (weight_of ring line) (numeral_value line) p
+    → worth_of_steps (line_degrees ring line) xs ≡ o
+degree_of_steps ring line xs p o is e = ap (worth_of_steps (line_degrees ring line)) is ∙ worth_is_left (line_degrees ring line) p ∙ sym e
 
 -- ---- tests of a list's items one by one
 
@@ -128,7 +128,7 @@ pub all_goes : {X : Type 0} (f : X → Bool) (xs : List X) (i : ℕ) (x : X) →
 all_goes f xs i x lt e h passes = ap (λ b. b && list_all f (drop (i + 1) xs)) (sym passes) ∙ sym (ap (list_all f) (dropped xs i x lt e)) ∙ h
 
 pub low_is :
-    (ring : Ring) (line : List ℕ) (xs : List PolyStep) (p : Poly) (o : Option ℕ) (r : Bool) → xs ≡ steps p → o ≡ formal_degree (weight_of ring line) (value_of line) p
+    (ring : Ring) (line : List ℕ) (xs : List PolyStep) (p : Poly) (o : Option ℕ) (r : Bool) → xs ≡ steps p → o ≡ formal_degree (weight_of ring line) (numeral_value line) p
     → is_some o ≡ not r → low_degree ring line xs ≡ not r
 low_is ring line xs p o r is e f = ap is_some (degree_of_steps ring line xs p o is e) ∙ f
 
@@ -151,11 +151,11 @@ module _ (ring : Ring) (line : List ℕ) (v : Vec PolyStep Global) (xs : List Po
   pub worth_by : (x : FormalSum (variables ring)) × (worth_of_steps (polynomials_of ring line) xs ≡ Some x)
   worth_by = subst (λ l. (x : FormalSum (variables ring)) × (worth_of_steps (polynomials_of ring line) l ≡ Some x)) (sym is) able.worth
 
-  pub degree_by : (d : ℕ) × (worth_of_steps (degrees_of ring line) xs ≡ Some d)
-  degree_by = subst (λ l. (d : ℕ) × (worth_of_steps (degrees_of ring line) l ≡ Some d)) (sym is) able.degree
+  pub degree_by : (d : ℕ) × (worth_of_steps (line_degrees ring line) xs ≡ Some d)
+  degree_by = subst (λ l. (d : ℕ) × (worth_of_steps (line_degrees ring line) l ≡ Some d)) (sym is) able.degree
 
-  pub numerals_by : AllByRecursion (λ t. value_of line t < 2 ^ 128) (numbers_of_steps xs)
-  numerals_by = subst (λ l. AllByRecursion (λ t. value_of line t < 2 ^ 128) (numbers_of_steps l)) (sym is) able.numerals
+  pub numerals_by : AllByRecursion (λ t. numeral_value line t < 2 ^ 128) (numbers_of_steps xs)
+  numerals_by = subst (λ l. AllByRecursion (λ t. numeral_value line t < 2 ^ 128) (numbers_of_steps l)) (sym is) able.numerals
 
 -- the first of those that can be worked out
 pub first_workable : (ring : Ring) (line : List ℕ) (pieces more : List (Vec PolyStep Global)) (v : Vec PolyStep Global) → pieces ≡ v ∷ more → AllByRecursion

@@ -6,7 +6,7 @@ use Rattle.script_tokens.specs.declared.token.Token.{Token}
 use Rattle.script_tokens.specs.declared.token.TokenKind.TheVariants.{Number}
 use Rattle.poly_grammar.specs.Degrees.{formal_degree}
 use Rattle.poly_grammar.specs.Lexemes.{names_in}
-use Rattle.poly_grammar.specs.Numerals.{text_of, value_of}
+use Rattle.poly_grammar.specs.Numerals.{numeral_value, text_of}
 use Rattle.poly_grammar.specs.Trees.{Poly, spelling}
 use Rattle.zp_field.specs.Moduli.{is_modulus}
 use Rattle.term_lists.specs.Rings.{variables}
@@ -27,7 +27,7 @@ pub record HasGreatNumeral (line : List ℕ) : Type 0 where
   pub numeral : Token
   pub stands : Contains found numeral
   pub is_number : numeral.kind ≡ Number
-  pub great : 2 ^ 128 ≤ value_of line numeral
+  pub great : 2 ^ 128 ≤ numeral_value line numeral
 
 -- a text stands twice in the list
 abbrev pub HasRepeat : List (List ℕ) → Type 0
@@ -40,13 +40,13 @@ IsOutside last k = (k ≡ 0) ⊎ (last < k)
 
 -- an order `elim K` has K outside 1..n
 abbrev pub HasOtherElim : List ℕ → ℕ → OrderName → Type 0
-HasOtherElim line n (Elim k) = IsOutside n (value_of line k)
+HasOtherElim line n (Elim k) = IsOutside n (numeral_value line k)
 HasOtherElim line n _ = ⊥
 
 -- weights that are stated are not n, or one of them is outside 1..255
 abbrev pub HasOtherWeights : List ℕ → ℕ → List Token → Type 0
 HasOtherWeights line n [] = ⊥
-HasOtherWeights line n ts = (length ts ≡ n → ⊥) ⊎ ((t : Token) × Contains ts t × IsOutside 255 (value_of line t))
+HasOtherWeights line n ts = (length ts ≡ n → ⊥) ⊎ ((t : Token) × Contains ts t × IsOutside 255 (numeral_value line t))
 
 -- a ring line has more than 15 variables, a variable twice, `elim K` with K outside 1..n, a number of weights other than n, or
 -- a weight outside 1..255, where n is the number of its variables
@@ -75,14 +75,14 @@ IsAboveRing (Some ring) k = variables ring < k
 abbrev pub LacksRing : Option Ring → List ℕ → Written → Type 0
 LacksRing ring line nothing = ⊥
 LacksRing ring line (ring_line r) = HasFaultyRing line r
-LacksRing ring line (let_line given (elimination value count)) = (ring ≡ None) ⊎ IsOutsideRing ring (value_of line count)
+LacksRing ring line (let_line given (elimination value count)) = (ring ≡ None) ⊎ IsOutsideRing ring (numeral_value line count)
 LacksRing ring line (change_line value order) = (ring ≡ None) ⊎ HasElimOutside ring line order
-LacksRing ring line (ext_line value count) = (ring ≡ None) ⊎ IsAboveRing ring (value_of line count)
+LacksRing ring line (ext_line value count) = (ring ≡ None) ⊎ IsAboveRing ring (numeral_value line count)
 LacksRing ring line _ = ring ≡ None
 
 -- the first number of a ring line is not in the table
 abbrev pub HasOtherModulus : List ℕ → Written → Type 0
-HasOtherModulus line (ring_line r) = is_modulus (value_of line r.modulus) ≡ false
+HasOtherModulus line (ring_line r) = is_modulus (numeral_value line r.modulus) ≡ false
 HasOtherModulus line _ = ⊥
 
 -- the rank of the value with this name; were there more, of the first of them
@@ -158,7 +158,7 @@ HasOtherOperands ring names line _ = ⊥
 abbrev pub HasOtherRank : Option Ring → List NameInfo → List ℕ → Written → Type 0
 HasOtherRank ring names line (ideal_line given ps) = 1000 < length ps
 HasOtherRank ring names line (module_line given rank vectors) =
-    IsOutside 64 (value_of line rank) ⊎ ((es : List Poly) × Contains vectors es × (length es ≡ value_of line rank → ⊥)) ⊎ (1000 < length vectors)
+    IsOutside 64 (numeral_value line rank) ⊎ ((es : List Poly) × Contains vectors es × (length es ≡ numeral_value line rank → ⊥)) ⊎ (1000 < length vectors)
 HasOtherRank ring names line (let_line given operation) = HasOtherOperands ring names line operation
 HasOtherRank ring names line (divide_line division value entries) = (rank : ℕ) × (rank_named names (text_of line value) ≡ Some rank) × (length entries ≡ rank → ⊥)
 HasOtherRank ring names line (equal_line left right) = HaveOtherRanks names line left right
@@ -170,7 +170,7 @@ HasOtherRank ring names line _ = ⊥
 abbrev pub HasGreatDegree : Option Ring → List ℕ → Written → Type 0
 HasGreatDegree None line w = ⊥
 HasGreatDegree (Some ring) line w =
-    (p : Poly) × Contains (polys_of w) p × (formal_degree (λ t. name_weight ring (text_of line t)) (value_of line) p ≡ None)
+    (p : Poly) × Contains (polys_of w) p × (formal_degree (λ t. name_weight ring (text_of line t)) (numeral_value line) p ≡ None)
 
 -- the kind holds of the line, where this ring is stated and values have these names; the last five kinds hold of no line by itself:
 -- the session tells them after the line's run
@@ -190,22 +190,22 @@ RefusalHolds ring names line kinds.Infinite = ⊥
 RefusalHolds ring names line kinds.Many = ⊥
 
 -- the place of a kind in the order in which they are tried
-abbrev pub place : Kind → ℕ
-place kinds.Syntax = 1
-place kinds.Numeral = 2
-place kinds.Ring = 3
-place kinds.Modulus = 4
-place kinds.Name = 5
-place kinds.OfKind = 6
-place kinds.Rank = 7
-place kinds.Degree = 8
-place kinds.Homogeneous = 9
-place kinds.Leads = 10
-place kinds.Large = 11
-place kinds.Infinite = 12
-place kinds.Many = 13
+abbrev pub place_of_kind : Kind → ℕ
+place_of_kind kinds.Syntax = 1
+place_of_kind kinds.Numeral = 2
+place_of_kind kinds.Ring = 3
+place_of_kind kinds.Modulus = 4
+place_of_kind kinds.Name = 5
+place_of_kind kinds.OfKind = 6
+place_of_kind kinds.Rank = 7
+place_of_kind kinds.Degree = 8
+place_of_kind kinds.Homogeneous = 9
+place_of_kind kinds.Leads = 10
+place_of_kind kinds.Large = 11
+place_of_kind kinds.Infinite = 12
+place_of_kind kinds.Many = 13
 
 -- the line is refused for this kind: it holds, and none that is tried before it
 pub record Refuses (ring : Option Ring) (names : List NameInfo) (line : List ℕ) (kind : Kind) : Type 0 where
   pub holds : RefusalHolds ring names line kind
-  pub first : (earlier : Kind) → place earlier < place kind → RefusalHolds ring names line earlier → ⊥
+  pub first : (earlier : Kind) → place_of_kind earlier < place_of_kind kind → RefusalHolds ring names line earlier → ⊥

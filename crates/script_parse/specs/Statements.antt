@@ -4,7 +4,7 @@ use Rattle.monomials.specs.Exponents.{unit}
 use Rattle.formal_sums.specs.FormalSums.{FormalSum, product}
 use Rattle.script_tokens.specs.declared.token.Token.{Token}
 use Rattle.poly_grammar.specs.Algebras.{worth}
-use Rattle.poly_grammar.specs.Numerals.{text_of, value_of}
+use Rattle.poly_grammar.specs.Numerals.{numeral_value, text_of}
 use Rattle.poly_grammar.specs.Trees.{Poly}
 use Rattle.poly_value.specs.Values.{IsValue, polynomials_of}
 use Rattle.monomial_orders.specs.declared.order.ModOrder.{ModOrder}
@@ -34,7 +34,7 @@ use Rattle.script_parse.specs.declared.stated.Statement.TheVariants as statement
 abbrev pub order_stated : List ℕ → OrderName → Order
 order_stated line Lex = orders.Lex
 order_stated line Grevlex = orders.Grevlex
-order_stated line (Elim k) = orders.Elim (value_of line k)
+order_stated line (Elim k) = orders.Elim (numeral_value line k)
 
 -- term over position with `top`, else position over term
 abbrev pub module_order_stated : Bool → ModOrder
@@ -44,11 +44,11 @@ module_order_stated false = Pot
 -- the weights of n variables that are stated: 1 for each where none are
 abbrev pub weights_stated : List ℕ → ℕ → List Token → List ℕ
 weights_stated line n [] = replicate n 1
-weights_stated line n ts = map (value_of line) ts
+weights_stated line n ts = map (numeral_value line) ts
 
 -- a ring line makes this ring, of the modulus, variables, orders and weights that it states
 pub record Makes (line : List ℕ) (r : RingLine) (ring : Ring) : Type 0 where
-  pub modulus_is : ring.modulus.value ≡ value_of line r.modulus
+  pub modulus_is : ring.modulus.value ≡ numeral_value line r.modulus
   pub names_are : ring.vars ≡ map (text_of line) r.names
   pub order_is : ring.order ≡ order_stated line r.order
   pub module_order_is : ring.module_order ≡ module_order_stated r.top
@@ -102,7 +102,7 @@ IsOperationOf ring line (of_two binaries.Intersect left right) (operations.Inter
 IsOperationOf ring line (of_two binaries.Colon left right) (operations.Colon b c) = AreTextsOf line left right (string_bytes b) (string_bytes c)
 IsOperationOf ring line (of_polynomial divisors.Quotient value p) (operations.Quotient b f) = (string_bytes b ≡ text_of line value) × IsPolynomialOf ring line p f
 IsOperationOf ring line (of_polynomial divisors.Saturate value p) (operations.Saturate b f) = (string_bytes b ≡ text_of line value) × IsPolynomialOf ring line p f
-IsOperationOf ring line (elimination value count) (operations.Eliminate b k) = (string_bytes b ≡ text_of line value) × (k ≡ value_of line count)
+IsOperationOf ring line (elimination value count) (operations.Eliminate b k) = (string_bytes b ≡ text_of line value) × (k ≡ numeral_value line count)
 IsOperationOf ring line (syzygies value) (operations.Syzygies b) = string_bytes b ≡ text_of line value
 IsOperationOf ring line (preimage value ps) (operations.Preimage b images) = (string_bytes b ≡ text_of line value) × ArePolynomialsOf ring line ps images
 IsOperationOf ring line _ _ = ⊥
@@ -114,7 +114,7 @@ Says ring line (ring_line r) (statements.Ring made) = Makes line r made
 Says (Some ring) line (show_line p) (statements.Show v) = IsPolynomialOf ring line p v
 Says (Some ring) line (ideal_line given ps) (statements.Ideal name list) = (string_bytes name ≡ text_of line given) × ArePolynomialsOf ring line ps list
 Says (Some ring) line (module_line given rank vectors) (statements.Module name r list) =
-    (string_bytes name ≡ text_of line given) × (r ≡ value_of line rank) × AreVectorsOf ring line (value_of line rank) vectors list
+    (string_bytes name ≡ text_of line given) × (r ≡ numeral_value line rank) × AreVectorsOf ring line (numeral_value line rank) vectors list
 Says (Some ring) line (let_line given written) (statements.Let name operation) = (string_bytes name ≡ text_of line given) × IsOperationOf ring line written operation
 Says ring line (ask_line questions.Gens value) (statements.Gens name) = string_bytes name ≡ text_of line value
 Says ring line (ask_line questions.Gb value) (statements.Gb name) = string_bytes name ≡ text_of line value
@@ -130,7 +130,7 @@ Says (Some ring) line (divide_line divisions.Lift value entries) (statements.Lif
 Says ring line (equal_line left right) (statements.Equal first second) = (string_bytes first ≡ text_of line left) × (string_bytes second ≡ text_of line right)
 Says ring line (change_line value order) (statements.Change name made) = (string_bytes name ≡ text_of line value) × (made ≡ order_stated line order)
 Says (Some ring) line (express_line p ps) (statements.Express f images) = IsPolynomialOf ring line p f × ArePolynomialsOf ring line ps images
-Says ring line (ext_line value count) (statements.Ext name k) = (string_bytes name ≡ text_of line value) × (k ≡ value_of line count)
+Says ring line (ext_line value count) (statements.Ext name k) = (string_bytes name ≡ text_of line value) × (k ≡ numeral_value line count)
 Says ring line _ _ = ⊥
 
 -- the line states this, where this ring is stated and values have these names: it is written so, and no kind of refusal

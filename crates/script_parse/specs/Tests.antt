@@ -6,13 +6,13 @@ use Rattle.std.specs.List.{AllByRecursion, list_all}
 use Rattle.std.specs.Str.{IsAscii}
 use Rattle.script_tokens.specs.declared.token.Token.{Token}
 use Rattle.poly_grammar.specs.Algebras.{worth_of_steps}
-use Rattle.poly_grammar.specs.Numerals.{text_of, value_of}
+use Rattle.poly_grammar.specs.Numerals.{numeral_value, text_of}
 use Rattle.poly_grammar.specs.Steps.{numbers_of_steps, steps}
 use Rattle.poly_grammar.specs.Trees.{Poly}
 use Rattle.poly_grammar.specs.declared.step.PolyStep.{PolyStep}
 use Rattle.poly_grammar.specs.declared.step.PolyStep.TheVariants as acts
 use Rattle.formal_sums.specs.FormalSums.{FormalSum}
-use Rattle.poly_value.specs.Values.{degrees_of, place_of, polynomials_of}
+use Rattle.poly_value.specs.Values.{line_degrees, place_of, polynomials_of}
 use Rattle.term_lists.specs.Rings.{ring_comparison, variables}
 use Rattle.term_lists.specs.Vectors.{AreTermsOver, HasPositions, IsVectorOver, StandsFor}
 use Rattle.term_lists.specs.declared.key.Key.{Key}
@@ -30,7 +30,7 @@ use Rattle.script_forms.specs.declared.ring_words.OrderName.{OrderName}
 use Rattle.script_forms.specs.declared.ring_words.OrderName.TheVariants.{Elim}
 use Rattle.script_forms.specs.declared.vectors.Shape.{Shape}
 use Rattle.script_forms.specs.declared.vectors.Shape.TheVariants as widths
-use Rattle.script_parse.specs.Refusals.{HasGreatDegree, HasGreatNumeral, HasOtherKind, HasOtherModulus, HasOtherRank, HasUnknownName, IsOutside, LacksRing, length_named, place, rank_named}
+use Rattle.script_parse.specs.Refusals.{HasGreatDegree, HasGreatNumeral, HasOtherKind, HasOtherModulus, HasOtherRank, HasUnknownName, IsOutside, LacksRing, length_named, place_of_kind, rank_named}
 use Rattle.script_parse.specs.Statements.{IsOperationOf, Says, entries_from}
 use Rattle.script_parse.specs.declared.kind.Kind.{Kind}
 use Rattle.script_parse.specs.declared.kind.Kind.TheVariants as kinds
@@ -60,7 +60,7 @@ HoldsOf ring names line w kinds.Many = ⊥
 abbrev pub AnswersForm : Option Ring → List NameInfo → List ℕ → Written → Result Statement ParseStop → Type 0
 AnswersForm ring names line w (Ok statement) = Says ring line w statement × ((kind : Kind) → HoldsOf ring names line w kind → ⊥)
 AnswersForm ring names line w (Err stops.Memory) = Unit {0}
-AnswersForm ring names line w (Err (stops.Refused kind)) = HoldsOf ring names line w kind × ((earlier : Kind) → place earlier < place kind → HoldsOf ring names line w earlier → ⊥)
+AnswersForm ring names line w (Err (stops.Refused kind)) = HoldsOf ring names line w kind × ((earlier : Kind) → place_of_kind earlier < place_of_kind kind → HoldsOf ring names line w earlier → ⊥)
 
 -- the names of an operation in a value's place
 abbrev pub operand_places : Operands → List Token
@@ -71,14 +71,14 @@ operand_places (Syzygies value) = value ∷ []
 operand_places (Preimage value) = value ∷ []
 
 -- the names of a head in a value's place
-abbrev pub places : Head → List Token
-places (heads.Let given operands) = operand_places operands
-places (heads.Ask question value) = value ∷ []
-places (heads.Divide division value) = value ∷ []
-places (heads.Equal left right) = left ∷ right ∷ []
-places (heads.Change value order) = value ∷ []
-places (heads.Ext value count) = value ∷ []
-places _ = []
+abbrev pub value_operands : Head → List Token
+value_operands (heads.Let given operands) = operand_places operands
+value_operands (heads.Ask question value) = value ∷ []
+value_operands (heads.Divide division value) = value ∷ []
+value_operands (heads.Equal left right) = left ∷ right ∷ []
+value_operands (heads.Change value order) = value ∷ []
+value_operands (heads.Ext value count) = value ∷ []
+value_operands _ = []
 
 -- the name of a head to be given
 abbrev pub given_name : Head → List Token
@@ -92,7 +92,7 @@ abbrev pub head_names : Head → List Token
 head_names (heads.Ideal given) = given ∷ []
 head_names (heads.Module given rank shape) = given ∷ []
 head_names (heads.Let given operands) = given ∷ operand_places operands
-head_names head = places head
+head_names head = value_operands head
 
 -- the steps are those of some POLY
 abbrev pub AreStepsOfPolynomial : Vec PolyStep Global → Type 0
@@ -100,7 +100,7 @@ AreStepsOfPolynomial v = (p : Poly) × (v.items ≡ steps p)
 
 -- their numbers are below 2^128
 abbrev pub HaveNumerals : List ℕ → Vec PolyStep Global → Type 0
-HaveNumerals line v = AllByRecursion (λ t. value_of line t < 2 ^ 128) (numbers_of_steps v.items)
+HaveNumerals line v = AllByRecursion (λ t. numeral_value line t < 2 ^ 128) (numbers_of_steps v.items)
 
 -- the names of a form are ASCII, and its numbers are below 2^128
 abbrev pub IsWellFormed : List ℕ → Form → Type 0
@@ -154,7 +154,7 @@ is_no_variable vars text = not (is_some (place_of vars text))
 -- whether the names of a line, by its head and the steps of its POLYs, are known, and the one to be given is no variable
 abbrev pub known_names : List (List ℕ) → List NameInfo → List ℕ → Head → List (Vec PolyStep Global) → Bool
 known_names vars names line head pieces =
-    (list_all (λ t. is_known vars names (text_of line t)) (places head) && list_all (λ t. is_no_variable vars (text_of line t)) (given_name head))
+    (list_all (λ t. is_known vars names (text_of line t)) (value_operands head) && list_all (λ t. is_no_variable vars (text_of line t)) (given_name head))
     && list_all (λ v. names_pass (is_known vars names) line v.items) pieces
 
 -- whether a rank, if there is one, is at most 1
@@ -176,7 +176,7 @@ factor_fits names line _ = true
 -- whether no name in a POLY is a value, none in a value's place a variable, and a value that has to be an ideal is one
 abbrev pub right_kinds : List (List ℕ) → List NameInfo → List ℕ → Head → List (Vec PolyStep Global) → Bool
 right_kinds vars names line head pieces =
-    (list_all (λ t. is_no_variable vars (text_of line t)) (places head) && factor_fits names line head)
+    (list_all (λ t. is_no_variable vars (text_of line t)) (value_operands head) && factor_fits names line head)
     && list_all (λ v. names_pass (is_no_value names) line v.items) pieces
 
 -- whether the number is from 1 to the last one
@@ -185,24 +185,24 @@ within last k = nat_le 1 k && nat_le k last
 
 -- whether `eliminate` has a number from 1 to n
 abbrev pub operands_eliminate : ℕ → List ℕ → Operands → Bool
-operands_eliminate n line (Eliminate value count) = within n (value_of line count)
+operands_eliminate n line (Eliminate value count) = within n (numeral_value line count)
 operands_eliminate n line _ = true
 
 -- an order is `elim K`, and K is 2^32 or more
 abbrev pub HasGreatElim : List ℕ → OrderName → Type 0
-HasGreatElim line (Elim k) = 2 ^ 32 ≤ value_of line k
+HasGreatElim line (Elim k) = 2 ^ 32 ≤ numeral_value line k
 HasGreatElim line _ = ⊥
 
 -- whether an order `elim` has one
 abbrev pub order_eliminates : ℕ → List ℕ → OrderName → Bool
-order_eliminates n line (Elim k) = within n (value_of line k)
+order_eliminates n line (Elim k) = within n (numeral_value line k)
 order_eliminates n line _ = true
 
 -- the same of a head, or whether the number of `ext` is at most n
 abbrev pub number_fits : ℕ → List ℕ → Head → Bool
 number_fits n line (heads.Let given operands) = operands_eliminate n line operands
 number_fits n line (heads.Change value order) = order_eliminates n line order
-number_fits n line (heads.Ext value count) = nat_le (value_of line count) n
+number_fits n line (heads.Ext value count) = nat_le (numeral_value line count) n
 number_fits n line _ = true
 
 -- whether ranks are the same, where there are two
@@ -236,7 +236,7 @@ module_fits rank shape count = (within 64 rank && has_width rank shape) && nat_l
 -- whether the ranks of a head fit, with so many polynomials in n variables
 abbrev pub rank_fits : ℕ → List NameInfo → List ℕ → Head → ℕ → Bool
 rank_fits n names line (heads.Ideal given) count = nat_le count 1000
-rank_fits n names line (heads.Module given rank shape) count = module_fits (value_of line rank) shape count
+rank_fits n names line (heads.Module given rank shape) count = module_fits (numeral_value line rank) shape count
 rank_fits n names line (heads.Let given operands) count = operands_fit n names line operands count
 rank_fits n names line (heads.Divide division value) count = same_rank (rank_named names (text_of line value)) (Some count)
 rank_fits n names line (heads.Equal left right) count = same_rank (rank_named names (text_of line left)) (rank_named names (text_of line right))
@@ -246,13 +246,13 @@ rank_fits n names line _ count = true
 
 -- whether steps have a formal degree, by the ring's weights, of at most 1,000
 abbrev pub low_degree : Ring → List ℕ → List PolyStep → Bool
-low_degree ring line xs = is_some (worth_of_steps (degrees_of ring line) xs)
+low_degree ring line xs = is_some (worth_of_steps (line_degrees ring line) xs)
 
 -- a polynomial that can be worked out
 pub record IsWorkable (ring : Ring) (line : List ℕ) (v : Vec PolyStep Global) : Type 0 where
   pub worth : (x : FormalSum (variables ring)) × (worth_of_steps (polynomials_of ring line) v.items ≡ Some x)
-  pub degree : (d : ℕ) × (worth_of_steps (degrees_of ring line) v.items ≡ Some d)
-  pub numerals : AllByRecursion (λ t. value_of line t < 2 ^ 128) (numbers_of_steps v.items)
+  pub degree : (d : ℕ) × (worth_of_steps (line_degrees ring line) v.items ≡ Some d)
+  pub numerals : AllByRecursion (λ t. numeral_value line t < 2 ^ 128) (numbers_of_steps v.items)
 
 -- the normal vector of rank 1 that steps are worth
 pub record IsWorth (ring : Ring) (line : List ℕ) (xs : List PolyStep) (u : List (Key × ℕ)) : Type 0 where
@@ -310,13 +310,13 @@ IsStated ring line head pieces (Err (stops.Refused kind)) = ⊥
 -- the weights are those of the NUMs, each from 1 to 255
 abbrev pub AreListedWeights : List ℕ → List Token → List ℕ → Type 0
 AreListedWeights line [] [] = Unit {0}
-AreListedWeights line (t ∷ ts) (w ∷ ws) = (w ≡ value_of line t) × (IsOutside 255 w → ⊥) × AreListedWeights line ts ws
+AreListedWeights line (t ∷ ts) (w ∷ ws) = (w ≡ numeral_value line t) × (IsOutside 255 w → ⊥) × AreListedWeights line ts ws
 AreListedWeights line _ _ = ⊥
 
 -- they are, or none where one of the NUMs is outside 1..255
 abbrev pub AreWeighedAll : List ℕ → List Token → Option (List ℕ) → Type 0
 AreWeighedAll line ts (Some ws) = AreListedWeights line ts ws
-AreWeighedAll line ts None = (t : Token) × Contains ts t × IsOutside 255 (value_of line t)
+AreWeighedAll line ts None = (t : Token) × Contains ts t × IsOutside 255 (numeral_value line t)
 
 -- what is stated, where it is not faulty, and none where it is
 abbrev pub IsGood : {X : Type 0} → X → Type 0 → Option X → Type 0

@@ -2,9 +2,9 @@
 
 ghost use Rattle.std.specs.Prelude.{◌≡◌, IfOk, length};
 ghost use Rattle.std.specs.List.{AllByRecursion, list_all};
-ghost use Rattle.poly_grammar.specs.Numerals.{text_of, value_of};
+ghost use Rattle.poly_grammar.specs.Numerals.{numeral_value, text_of};
 ghost use Rattle.script_parse.specs.Refusals.{length_named, rank_named};
-ghost use Rattle.script_parse.specs.Tests.{AreStepsOfPolynomial, factor_fits, given_name, has_width, is_known, is_no_value, is_no_variable, length_fits, low_degree, low_rank, module_fits, names_pass, number_fits, operand_places, operands_fit, places, rank_fits, same_rank};
+ghost use Rattle.script_parse.specs.Tests.{AreStepsOfPolynomial, factor_fits, given_name, has_width, is_known, is_no_value, is_no_variable, length_fits, low_degree, low_rank, module_fits, names_pass, number_fits, operand_places, operands_fit, rank_fits, same_rank, value_operands};
 
 use crate::name_table::NameTable;
 use crate::named::{length_named, rank_named};
@@ -149,7 +149,7 @@ fn operands_free(line: &[u8], vars: &Names, operands: Operands) -> bool
 
 /// Whether each name in a value's place is a variable or a value.
 pub fn places_known(line: &[u8], vars: &Names, names: &NameTable, head: Head) -> bool
-    ensures { result ≡ list_all (λ t. is_known vars.now names.now (text_of line.now t)) (places head) }
+    ensures { result ≡ list_all (λ t. is_known vars.now names.now (text_of line.now t)) (value_operands head) }
 {
     match head {
         Head::Show | Head::Ideal(_) | Head::Module(_, _, _) | Head::Express => true,
@@ -166,7 +166,7 @@ pub fn places_known(line: &[u8], vars: &Names, names: &NameTable, head: Head) ->
 
 /// Whether no name in a value's place is a variable.
 pub fn places_free(line: &[u8], vars: &Names, head: Head) -> bool
-    ensures { result ≡ list_all (λ t. is_no_variable vars.now (text_of line.now t)) (places head) }
+    ensures { result ≡ list_all (λ t. is_no_variable vars.now (text_of line.now t)) (value_operands head) }
 {
     match head {
         Head::Show | Head::Ideal(_) | Head::Module(_, _, _) | Head::Express => true,
@@ -291,7 +291,7 @@ fn has_width(rank: u32, shape: Shape) -> bool
 
 /// Whether vectors of the shape with so many entries in all are at most 1,000 of the rank, which is from 1 to 64.
 fn module_fits(line: &[u8], rank: Token, shape: Shape, count: usize) -> bool
-    ensures { result ≡ module_fits (value_of line.now rank) shape count }
+    ensures { result ≡ module_fits (numeral_value line.now rank) shape count }
 {
     match number_within(line, rank, RANK) {
         Some(rank) => has_width(rank, shape) && count <= GENERATORS * rank as usize,

@@ -5,7 +5,7 @@ ghost use Rattle.std.specs.Str.{IsAscii};
 ghost use Rattle.std.specs.Str.Lossy.{utf8_lossy};
 ghost use Rattle.std.specs.List.{AllByRecursion};
 ghost use Rattle.std.specs.Option.{option_map};
-ghost use Rattle.poly_grammar.specs.Numerals.{text_of, value_of};
+ghost use Rattle.poly_grammar.specs.Numerals.{numeral_value, text_of};
 ghost use Rattle.zp_field.specs.Moduli.{is_modulus};
 ghost use Rattle.term_lists.specs.declared.ring.Ring.{Ring as RingValue};
 ghost use Rattle.script_forms.specs.RingForms.{ring_line_of};
@@ -31,8 +31,8 @@ const VARIABLES: usize = 15;
 
 /// The modulus that a number of the line names; none exactly where it is not in the table.
 fn modulus_of(line: &[u8], token: Token) -> Option<Modulus>
-    ensures found { IfSome result (λ m. m.value ≡ value_of line.now token) }
-    ensures none { IfNone result (is_modulus (value_of line.now token) ≡ false) }
+    ensures found { IfSome result (λ m. m.value ≡ numeral_value line.now token) }
+    ensures none { IfNone result (is_modulus (numeral_value line.now token) ≡ false) }
 {
     let value = number(text(line, token))?;
     if value > 2147483647 {

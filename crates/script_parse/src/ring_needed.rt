@@ -5,7 +5,7 @@ ghost use Rattle.std.specs.Global.{Global};
 ghost use Rattle.std.specs.List.{AllByRecursion};
 ghost use Rattle.std.specs.Option.{option_copied};
 ghost use Rattle.std.specs.Str.{IsAscii};
-ghost use Rattle.poly_grammar.specs.Numerals.{text_of, value_of};
+ghost use Rattle.poly_grammar.specs.Numerals.{numeral_value, text_of};
 ghost use Rattle.poly_grammar.specs.declared.step.PolyStep.{PolyStep as StepValue};
 ghost use Rattle.term_lists.specs.declared.ring.Ring.{Ring as RingValue};
 ghost use Rattle.script_forms.specs.Forms.{IsLineOf};
@@ -114,7 +114,7 @@ fn module_statement(
 ) -> Result<Statement, ParseStop>
     requires ascii { IsAscii (text_of line.now given) }
     requires workable { AllByRecursion (IsWorkable ring.now line.now) polynomials.now }
-    requires fits { module_fits (value_of line.now rank) shape (length polynomials.now) ≡ true }
+    requires fits { module_fits (numeral_value line.now rank) shape (length polynomials.now) ≡ true }
     ensures { IsStated ring.now line.now (heads.Module given rank shape) polynomials.now result }
 {
     let name = name_of(alloc, line, given)?;

@@ -6,7 +6,7 @@ use Rattle.script_tokens.specs.declared.token.Token.{Token}
 use Rattle.script_tokens.specs.declared.token.TokenKind.{TokenKind}
 use Rattle.script_tokens.specs.declared.token.TokenStop.{TokenStop}
 use Rattle.script_tokens.specs.declared.token.TokenStop.TheVariants.{At, Memory}
-use Rattle.script_tokens.specs.Scans.{GivesOrStops, token_at, tokens_from, tokens_of, with_front, begun}
+use Rattle.script_tokens.specs.Scans.{GivesOrStops, token_at, tokens_from, tokens_of, with_front_tokens, begun}
 use Rattle.script_tokens.specs.Tokens.{is_blank}
 use Rattle.script_tokens.specs.Cuts.{Passes, IsToken, IsLongest, IsNextToken, IsCut, IsComment, BeginsNothing, HasTokens, HasStrayByte, IsCutInto}
 use Rattle.script_tokens.proofs.Longest.{found_is_longest, none_begins, token_apart, longest_is_found}
@@ -49,7 +49,7 @@ next_token at b bs t e within =
     record { blanks = []; text = b ∷ take t.1 bs; parts = ap (λ l. b ∷ l) (take_and_drop t.1 bs); blank = tt; begins = omega arith; ends = omega (arith, n); token = h.0; longest = h.1 }
 
 tells_token : (at b : ℕ) (bs : List ℕ) (t : TokenKind × ℕ) (answer : Result (List Token) ℕ) → token_at b bs ≡ Some t → t.1 ≤ length bs → Tells (at + 1 + t.1) (drop t.1 bs) answer
-    → Tells at (b ∷ bs) (with_front (record { kind = t.0; start = at; end = at + 1 + t.1 } ∷ []) answer)
+    → Tells at (b ∷ bs) (with_front_tokens (record { kind = t.0; start = at; end = at + 1 + t.1 } ∷ []) answer)
 tells_token at b bs t (Ok ts) e within h = (drop t.1 bs, next_token at b bs t e within, h)
 tells_token at b bs t (Err i) e within h = (record { kind = t.0; start = at; end = at + 1 + t.1 } ∷ h.0, (drop t.1 bs, next_token at b bs t e within, h.1))
 
@@ -89,7 +89,7 @@ drop_behind (b ∷ bs) rest = drop_behind bs rest
 
 -- a token joins the answer
 token_joins : (kind : TokenKind) (at : ℕ) (text rest : List ℕ) → IsToken kind text → IsLongest text rest
-    → tokens_from 0 at (text ++ rest) ≡ with_front (record { kind = kind; start = at; end = at + length text } ∷ []) (tokens_from 0 (at + length text) rest)
+    → tokens_from 0 at (text ++ rest) ≡ with_front_tokens (record { kind = kind; start = at; end = at + length text } ∷ []) (tokens_from 0 (at + length text) rest)
 unfolding tokens_from
 token_joins kind at [] rest h longest = absurd h
 token_joins kind at (b ∷ bs) rest h longest =
@@ -99,28 +99,28 @@ token_joins kind at (b ∷ bs) rest h longest =
     let k = longest_is_found kind b bs rest h longest in
     let one : tokens_from 0 at (b ∷ (bs ++ rest)) ≡ begun (Some (kind, length bs)) at (λ more. tokens_from more (at + 1) (bs ++ rest)) = rw (e, f, k) refl in
     let place : at + 1 + length bs ≡ at + suc (length bs) = omega arith in
-    one ∙ ap (with_front (record { kind = kind; start = at; end = at + 1 + length bs } ∷ [])) (inside_is_dropped (length bs) (at + 1) (bs ++ rest) ∙ ap (tokens_from 0 (at + 1 + length bs)) (drop_behind bs rest))
-    ∙ ap (λ n. with_front (record { kind = kind; start = at; end = n } ∷ []) (tokens_from 0 n rest)) place
+    one ∙ ap (with_front_tokens (record { kind = kind; start = at; end = at + 1 + length bs } ∷ [])) (inside_is_dropped (length bs) (at + 1) (bs ++ rest) ∙ ap (tokens_from 0 (at + 1 + length bs)) (drop_behind bs rest))
+    ∙ ap (λ n. with_front_tokens (record { kind = kind; start = at; end = n } ∷ []) (tokens_from 0 n rest)) place
 
-none_before : (answer : Result (List Token) ℕ) → with_front [] answer ≡ answer
+none_before : (answer : Result (List Token) ℕ) → with_front_tokens [] answer ≡ answer
 none_before (Ok ts) = refl
 none_before (Err i) = refl
 
-joined : (t : Token) (ts : List Token) (answer : Result (List Token) ℕ) → with_front (t ∷ []) (with_front ts answer) ≡ with_front (t ∷ ts) answer
+joined : (t : Token) (ts : List Token) (answer : Result (List Token) ℕ) → with_front_tokens (t ∷ []) (with_front_tokens ts answer) ≡ with_front_tokens (t ∷ ts) answer
 joined t ts (Ok found) = refl
 joined t ts (Err i) = refl
 
 -- a cut is the answer
 is_answer : (Rest : ℕ → List ℕ → Type 0) (end : Result (List Token) ℕ) → ((place : ℕ) (rest : List ℕ) → Rest place rest → tokens_from 0 place rest ≡ end)
-    → (at : ℕ) (bytes : List ℕ) (ts : List Token) → IsCut Rest at bytes ts → tokens_from 0 at bytes ≡ with_front ts end
+    → (at : ℕ) (bytes : List ℕ) (ts : List Token) → IsCut Rest at bytes ts → tokens_from 0 at bytes ≡ with_front_tokens ts end
 is_answer Rest end ends at bytes [] h =
     ap (tokens_from 0 at) h.2 ∙ blanks_pass at h.0 h.1 h.3 ∙ ends (at + length h.0) h.1 h.4 ∙ sym (none_before end)
 is_answer Rest end ends at bytes (t ∷ ts) h =
     let n = h.1 in
     ap (tokens_from 0 at) n.parts ∙ blanks_pass at n.blanks (n.text ++ h.0) n.blank ∙ token_joins t.kind (at + length n.blanks) n.text h.0 n.token n.longest
-    ∙ ap (λ k. with_front (record { kind = t.kind; start = k; end = k + length n.text } ∷ []) (tokens_from 0 (k + length n.text) h.0)) (sym n.begins)
-    ∙ ap (λ k. with_front (record { kind = t.kind; start = t.start; end = k } ∷ []) (tokens_from 0 k h.0)) (sym n.ends)
-    ∙ ap (with_front (t ∷ [])) (is_answer Rest end ends t.end h.0 ts h.2) ∙ joined t ts end
+    ∙ ap (λ k. with_front_tokens (record { kind = t.kind; start = k; end = k + length n.text } ∷ []) (tokens_from 0 (k + length n.text) h.0)) (sym n.begins)
+    ∙ ap (λ k. with_front_tokens (record { kind = t.kind; start = t.start; end = k } ∷ []) (tokens_from 0 k h.0)) (sym n.ends)
+    ∙ ap (with_front_tokens (t ∷ [])) (is_answer Rest end ends t.end h.0 ts h.2) ∙ joined t ts end
 
 comment_ends : (place : ℕ) (rest : List ℕ) → IsComment rest → tokens_from 0 place rest ≡ Ok []
 unfolding tokens_from

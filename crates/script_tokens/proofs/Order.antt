@@ -6,7 +6,7 @@ use Rattle.std.specs.Char.{is_ascii_digit, is_ascii_alphabetic}
 use Rattle.script_tokens.specs.declared.token.Token.{Token}
 use Rattle.script_tokens.specs.declared.token.TokenKind.{TokenKind}
 use Rattle.script_tokens.specs.declared.token.TokenStop.{TokenStop}
-use Rattle.script_tokens.specs.Scans.{alone, token_at, tokens_from, tokens_of, with_front, begun, GivesOrStops}
+use Rattle.script_tokens.specs.Scans.{alone, token_at, tokens_from, tokens_of, with_front_tokens, begun, GivesOrStops}
 use Rattle.script_tokens.specs.Tokens.{is_blank, is_name_byte, sign_of, IsInOrder}
 
 abbrev Ordered : ℕ → ℕ → Result (List Token) ℕ → Type 0
@@ -34,7 +34,7 @@ ordered_weaker : (from lower limit : ℕ) (answer : Result (List Token) ℕ) →
 ordered_weaker from lower limit (Ok ts) le h = weaker from lower limit ts le h
 ordered_weaker from lower limit (Err at) le h = tt
 
-joined : (kind : TokenKind) (at more limit : ℕ) (answer : Result (List Token) ℕ) → at + 1 + more ≤ limit → Ordered (at + 1 + more) limit answer → Ordered at limit (with_front (record { kind = kind; start = at; end = at + 1 + more } ∷ []) answer)
+joined : (kind : TokenKind) (at more limit : ℕ) (answer : Result (List Token) ℕ) → at + 1 + more ≤ limit → Ordered (at + 1 + more) limit answer → Ordered at limit (with_front_tokens (record { kind = kind; start = at; end = at + 1 + more } ∷ []) answer)
 joined kind at more limit (Ok ts) le h = (omega arith, omega arith, le, h)
 joined kind at more limit (Err i) le h = tt
 

@@ -21,16 +21,16 @@ token_at b bs =
     else (if is_ascii_digit b then Some (Number, prefix_len is_ascii_digit bs)
     else alone (sign_of b))
 
-abbrev pub with_front : List Token → Result (List Token) ℕ → Result (List Token) ℕ
-with_front front (Err at) = Err at
-with_front front (Ok found) = Ok (front ++ found)
+abbrev pub with_front_tokens : List Token → Result (List Token) ℕ → Result (List Token) ℕ
+with_front_tokens front (Err at) = Err at
+with_front_tokens front (Ok found) = Ok (front ++ found)
 
 -- The tokens of bytes that stand from place at on, of which the first `inside` belong to a token already. A # ends them
 -- (35), a blank is passed over. Err i: the byte at i is the first that begins no token.
 -- (begun takes what token begins at place at, if any, and the tokens of the bytes after by how many of them it takes.)
 abbrev pub begun : Option (TokenKind × ℕ) → ℕ → (ℕ → Result (List Token) ℕ) → Result (List Token) ℕ
 begun None at after = Err at
-begun (Some t) at after = with_front (record { kind = t.0; start = at; end = at + 1 + t.1 } ∷ []) (after t.1)
+begun (Some t) at after = with_front_tokens (record { kind = t.0; start = at; end = at + 1 + t.1 } ∷ []) (after t.1)
 
 unfoldable pub tokens_from : ℕ → ℕ → List ℕ → Result (List Token) ℕ
 tokens_from inside at [] = Ok []

@@ -5,7 +5,7 @@ use Rattle.std.proofs.lemmas.Bool.Decides.{eqb_tells}
 use Rattle.std.specs.Prelude.{Contains, string_bytes}
 use Rattle.std.specs.Cmp.Lexicographic.{pointwise}
 use Rattle.formal_sums.specs.FormalSums.{Each}
-use Rattle.poly_grammar.specs.Numerals.{text_of, value_of}
+use Rattle.poly_grammar.specs.Numerals.{numeral_value, text_of}
 use Rattle.poly_grammar.specs.Trees.{Poly}
 use Rattle.script_tokens.specs.declared.token.Token.{Token}
 use Rattle.term_lists.specs.Rings.{ring_comparison, variables}
@@ -415,12 +415,12 @@ module _ (values : List Value) (infos : List NameInfo) (line : List ℕ) (told :
   fit (Some r) (ideal_line t ps) _ is free h = absurd h
   fit None (ideal_line t ps) s is free h = absurd h
   fit (Some r) (module_line t k es) (statements.Module name rank list) is free h =
-      let x = vectors_fit r line (value_of line k) es list h.2 in (
+      let x = vectors_fit r line (numeral_value line k) es list h.2 in (
         r,
         refl,
         x.0,
         subst (λ m. Each (HasPositions m) list) (sym h.1) x.1,
-        subst IsValueRank (sym h.1) (within (value_of line k) (λ out. free kinds.Rank (module_line t k es, is, inl out))),
+        subst IsValueRank (sym h.1) (within (numeral_value line k) (λ out. free kinds.Rank (module_line t k es, is, inl out))),
       )
   fit (Some r) (module_line t k es) _ is free h = absurd h
   fit None (module_line t k es) s is free h = absurd h

@@ -12,7 +12,7 @@ use Rattle.session_lang.specs.Lines.{Line, RefusesLine}
 use Rattle.script_parse.specs.declared.kind.Kind.{Kind}
 use Rattle.session_top.specs.declared.TheConstants.{SCRIPT_LIMIT}
 use Rattle.session_top.specs.Lines.{lines_in, lines_of, whole_lines, onto_first, onto_whole}
-use Rattle.session_top.specs.Meaning.{Ending, Done, Refused, Folds, Meaning, is_long, last_of, script_lines, closing}
+use Rattle.session_top.specs.Meaning.{ScriptEnding, Done, Refused, Folds, Meaning, is_long, last_of, script_lines, ending_text}
 use Rattle.session_top.specs.Run.{Meant, MeantRefused, IsSettled, IsComplete, IsToldAs}
 use Rattle.session_top.proofs.Whole.{long_script, short_script}
 
@@ -23,7 +23,7 @@ pub record LineLaws : Type 0 where
   pub apart : (before : ScriptState) (line : List ℕ) (p : ScriptState) (x : List ℕ) (k : Kind) → Line before line p x → RefusesLine before line k → ⊥
 
 -- the fold has one outcome
-pub folds_unique : (laws : LineLaws) (last : Ending) (n : ℕ) (c : ScriptState) (lines : List (List ℕ)) (t u : List ℕ) (e f : Ending)
+pub folds_unique : (laws : LineLaws) (last : ScriptEnding) (n : ℕ) (c : ScriptState) (lines : List (List ℕ)) (t u : List ℕ) (e f : ScriptEnding)
     → Folds last n c lines t e → Folds last n c lines u f → (t ≡ u) × (e ≡ f)
 folds_unique laws last n c [] t u e f (same, text) (same', text') = (text ∙ sym text', same ∙ sym same')
 folds_unique laws last n c (l ∷ lines) t u e f (inl (mid, first, rest, one, others, parts)) (inl (mid', first', rest', one', others', parts')) =
@@ -35,9 +35,9 @@ folds_unique laws last n c (l ∷ lines) t u e f (inl (mid, first, rest, one, ot
 folds_unique laws last n c (l ∷ lines) t u e f (inr (kind, refuses, same, text)) (inl (mid, first, rest, one, others, parts)) = absurd (laws.apart c l mid first kind one refuses)
 folds_unique laws last n c (l ∷ lines) t u e f (inr (kind, refuses, same, text)) (inr (kind', refuses', same', text')) =
     let k = laws.kind c l kind kind' refuses refuses' in
-    (text ∙ ap (λ x. closing (Refused n (OfLine x))) k ∙ sym text', same ∙ ap (λ x. Refused n (OfLine x)) k ∙ sym same')
+    (text ∙ ap (λ x. ending_text (Refused n (OfLine x))) k ∙ sym text', same ∙ ap (λ x. Refused n (OfLine x)) k ∙ sym same')
 
-line_at : Ending → ℕ
+line_at : ScriptEnding → ℕ
 line_at Done = 0
 line_at (Refused m k) = m
 
@@ -52,7 +52,7 @@ refused_from n c (l ∷ lines) t m k (inl (mid, first, rest, one, others, parts)
 refused_from n c (l ∷ lines) t m k (inr (kind, refuses, same, text)) = let e : m ≡ n = line_of_refused m n k (OfLine kind) same in omega (arith, e)
 
 -- a refusal among the first lines does not hang on what comes behind them
-refused_within : (last : Ending) (n : ℕ) (c : ScriptState) (xs ys zs : List (List ℕ)) (t : List ℕ) (m : ℕ) (k : Refusal) → Folds Done n c (xs ++ ys) t (Refused m k) → m < n + length xs
+refused_within : (last : ScriptEnding) (n : ℕ) (c : ScriptState) (xs ys zs : List (List ℕ)) (t : List ℕ) (m : ℕ) (k : Refusal) → Folds Done n c (xs ++ ys) t (Refused m k) → m < n + length xs
     → Folds last n c (xs ++ zs) t (Refused m k)
 refused_within last n c [] ys zs t m k folds below = let from = refused_from n c ys t m k folds in absurd (omega (arith, from, below))
 refused_within last n c (x ∷ xs) ys zs t m k (inl (mid, first, rest, one, others, parts)) below =
@@ -116,12 +116,12 @@ extends xs ys t m k means below =
     ]
 
 -- what was read has the meaning of the whole
-pub meaning_of_all : (script xs ys t : List ℕ) (e : Ending) → script ≡ xs ++ ys → IsSettled xs (Some ys) e → Meaning xs t e → Meaning script t e
+pub meaning_of_all : (script xs ys t : List ℕ) (e : ScriptEnding) → script ≡ xs ++ ys → IsSettled xs (Some ys) e → Meaning xs t e → Meaning script t e
 meaning_of_all script xs ys t Done same end means = subst (λ s. Meaning s t Done) (sym (same ∙ ap (λ l. xs ++ l) end ∙ append-nil xs)) means
 meaning_of_all script xs ys t (Refused m k) same (inl below) means = subst (λ s. Meaning s t (Refused m k)) (sym same) (extends xs ys t m k means below)
 meaning_of_all script xs ys t (Refused m k) same (inr end) means = subst (λ s. Meaning s t (Refused m k)) (sym (same ∙ ap (λ l. xs ++ l) end ∙ append-nil xs)) means
 
-at_end_of : (script : List ℕ) (b : Option (List ℕ)) (e f : Ending) → f ≡ e → IsSettled script b e → f ≡ Done → IsAtEnd b
+at_end_of : (script : List ℕ) (b : Option (List ℕ)) (e f : ScriptEnding) → f ≡ e → IsSettled script b e → f ≡ Done → IsAtEnd b
 at_end_of script b Done f same settled done = settled
 at_end_of script b (Refused m k) f same settled done = cc
 
@@ -134,7 +134,7 @@ unfolding script_of
 same_script xs ys e = ap script_of e
 
 -- where the source tells its script, the ending is the script's and the bytes are its text
-pub complete : LineLaws → (a b t u : Option (List ℕ)) (e : Ending) → Meant a b t u e → (script text : List ℕ) (ending : Ending) → a ≡ Some script → Meaning script text ending
+pub complete : LineLaws → (a b t u : Option (List ℕ)) (e : ScriptEnding) → Meant a b t u e → (script text : List ℕ) (ending : ScriptEnding) → a ≡ Some script → Meaning script text ending
     → Appends t u text × (ending ≡ e) × (ending ≡ Done → IsAtEnd b)
 complete laws None b t u e meant script text ending told means = cc
 complete laws (Some x) None t u e meant script text ending told means = absurd meant.read

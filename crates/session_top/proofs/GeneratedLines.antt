@@ -11,7 +11,7 @@ use Rattle.session_top.specs.declared.early.Early.{Early}
 use Rattle.session_top.specs.declared.early.Early.TheVariants as early
 use Rattle.session_top.specs.Limits.{Limits}
 use Rattle.session_top.specs.Lines.{lines_in, whole_lines}
-use Rattle.session_top.specs.Meaning.{Ending, Done, Refused, is_long, last_of, script_lines}
+use Rattle.session_top.specs.Meaning.{ScriptEnding, Done, Refused, is_long, last_of, script_lines}
 use Rattle.session_top.specs.Run.{AreReady, IsSettled, IsBeingDone, IsTextDue, Meant, ScriptStops}
 use Rattle.session_top.proofs.Complete.{meaning_of_all, whole_first}
 use Rattle.session_top.proofs.Whole.{consumed_whole, long_script, short_script}
@@ -82,11 +82,11 @@ due_of_all limits all script lines rest text x (inr stop) = inr (record {
   parts = stop.parts;
 })
 
-settled_whole : (all : List ℕ) (e : Ending) → IsSettled all (Some []) e
+settled_whole : (all : List ℕ) (e : ScriptEnding) → IsSettled all (Some []) e
 settled_whole all Done = refl
 settled_whole all (Refused n k) = inr refl
 
-meant_of_all : (all rest : List ℕ) (t u : Option (List ℕ)) (e : Ending) → Meant (Some all) (Some rest) t u e → Meant (Some all) (Some []) t u e
+meant_of_all : (all rest : List ℕ) (t u : Option (List ℕ)) (e : ScriptEnding) → Meant (Some all) (Some rest) t u e → Meant (Some all) (Some []) t u e
 meant_of_all all rest t u e meant = record {
   script = all;
   text = meant.text;

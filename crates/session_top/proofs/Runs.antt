@@ -14,7 +14,7 @@ use Rattle.session_top.specs.declared.early.Early.TheVariants as early
 use Rattle.session_top.specs.declared.early.Refusal.TheVariants.{OfLine, Length}
 use Rattle.session_top.specs.Limits.{Limits}
 use Rattle.session_top.specs.Lines.{lines_in, whole_lines}
-use Rattle.session_top.specs.Meaning.{Ending, Done, Refused, Folds, AllDone, closing, is_long, last_of, script_lines}
+use Rattle.session_top.specs.Meaning.{ScriptEnding, Done, Refused, Folds, AllDone, ending_text, is_long, last_of, script_lines}
 use Rattle.session_top.specs.Parts.{ErrorEnds, LineStops}
 use Rattle.session_top.specs.Run.{AreReady, IsSettled, Meant, ScriptStops}
 use Rattle.session_top.specs.Stops.{stop_line}
@@ -42,27 +42,27 @@ settled_at script b lines rest line n kind count (inl e) =
 settled_at script b lines rest line n kind count (inr (end, e)) = inr end
 
 -- these lines were done, and the next is refused
-refused_next : (s : ScriptState) (n : ℕ) (lines more : List (List ℕ)) (line text : List ℕ) (kind : Kind) (last : Ending)
+refused_next : (s : ScriptState) (n : ℕ) (lines more : List (List ℕ)) (line text : List ℕ) (kind : Kind) (last : ScriptEnding)
     → n ≡ length lines → AllDone no_names lines s text → RefusesLine s line kind
-    → Folds last 1 no_names (lines ++ line ∷ more) (text ++ closing (Refused (n + 1) (OfLine kind))) (Refused (n + 1) (OfLine kind))
+    → Folds last 1 no_names (lines ++ line ∷ more) (text ++ ending_text (Refused (n + 1) (OfLine kind))) (Refused (n + 1) (OfLine kind))
 refused_next s n lines more line text kind last count steps refuses =
     let number : n + 1 ≡ 1 + length lines = omega (arith, count) in
-    folds_after last (Refused (n + 1) (OfLine kind)) 1 no_names s lines (line ∷ more) text (closing (Refused (n + 1) (OfLine kind))) steps
-    (inr (kind, refuses, ap (λ k. Refused k (OfLine kind)) number, ap (λ k. closing (Refused k (OfLine kind))) number))
+    folds_after last (Refused (n + 1) (OfLine kind)) 1 no_names s lines (line ∷ more) text (ending_text (Refused (n + 1) (OfLine kind))) steps
+    (inr (kind, refuses, ap (λ k. Refused k (OfLine kind)) number, ap (λ k. ending_text (Refused k (OfLine kind))) number))
 
 refused_meant : (a c t u v : Option (List ℕ)) (line : List ℕ) (n : ℕ) (s : ScriptState) (kind : Kind) → Due a c t u line n s → RefusesLine s line kind
-    → Appends u v (closing (Refused (n + 1) (OfLine kind))) → Meant a c t v (Refused (n + 1) (OfLine kind))
+    → Appends u v (ending_text (Refused (n + 1) (OfLine kind))) → Meant a c t v (Refused (n + 1) (OfLine kind))
 refused_meant a c t u v line n s kind due refuses wrote =
     let all = ready_lines due.script c (due.lines ++ (line ∷ due.rest)) due.ready in
     record {
       script = due.script;
-      text = due.text ++ closing (Refused (n + 1) (OfLine kind));
+      text = due.text ++ ending_text (Refused (n + 1) (OfLine kind));
       read = due.read;
       settled = settled_at due.script c due.lines due.rest line n kind due.count due.ready;
-      means = subst (λ l. Folds (last_of (is_long due.script)) 1 no_names l (due.text ++ closing (Refused (n + 1) (OfLine kind))) (Refused (n + 1) (OfLine kind)))
+      means = subst (λ l. Folds (last_of (is_long due.script)) 1 no_names l (due.text ++ ending_text (Refused (n + 1) (OfLine kind))) (Refused (n + 1) (OfLine kind)))
           (sym (all.1 ∙ append_assoc due.lines (line ∷ due.rest) all.0))
           (refused_next s n due.lines (due.rest ++ all.0) line due.text kind (last_of (is_long due.script)) due.count due.steps refuses);
-      written = Appends-trans t u v due.text (closing (Refused (n + 1) (OfLine kind))) due.written wrote;
+      written = Appends-trans t u v due.text (ending_text (Refused (n + 1) (OfLine kind))) due.written wrote;
     }
 
 -- a line was not done to its end
@@ -200,10 +200,10 @@ pub line_stops : (a b c t u v : Option (List ℕ)) (r q : Reading) (n : ℕ) (s 
 line_stops a b c t u v r q n s line limits stop so next stops = due_stops a c t u v line n s limits stop (line_due a b c t u r q n s line so next) stops
 
 long_means : (script text : List ℕ) (lines : List (List ℕ)) (s : ScriptState) → is_long script ≡ true → whole_lines (take SCRIPT_LIMIT script) ≡ lines → AllDone no_names lines s text
-    → Folds (last_of (is_long script)) 1 no_names (script_lines script) (text ++ closing (Refused 0 Length)) (Refused 0 Length)
+    → Folds (last_of (is_long script)) 1 no_names (script_lines script) (text ++ ending_text (Refused 0 Length)) (Refused 0 Length)
 long_means script text lines s long same steps =
-    subst (λ w. Folds (last_of w) 1 no_names (lines_in w (take SCRIPT_LIMIT script)) (text ++ closing (Refused 0 Length)) (Refused 0 Length)) (sym long)
-    (subst (λ l. Folds (Refused 0 Length) 1 no_names l (text ++ closing (Refused 0 Length)) (Refused 0 Length)) (sym same)
+    subst (λ w. Folds (last_of w) 1 no_names (lines_in w (take SCRIPT_LIMIT script)) (text ++ ending_text (Refused 0 Length)) (Refused 0 Length)) (sym long)
+    (subst (λ l. Folds (Refused 0 Length) 1 no_names l (text ++ ending_text (Refused 0 Length)) (Refused 0 Length)) (sym same)
     (folds_all (Refused 0 Length) no_names s lines text steps))
 
 -- the script is too long, and no line is left among the bytes that count
@@ -213,18 +213,18 @@ long_stops a b c t u v r n s limits (early.Refused m) so long (same, wrote) = re
   refusal = Length;
   meant = subst (λ k. Meant a c t v (Refused k Length)) (sym same) (record {
     script = so.used ++ long.bytes;
-    text = so.text ++ closing (Refused 0 Length);
+    text = so.text ++ ending_text (Refused 0 Length);
     read = so_far a b c t u r n s long.bytes so long.taken;
     settled = inl (omega arith);
     means = long_means (so.used ++ long.bytes) so.text so.lines s (long_is a b c t u r n s so long) (long_lines a b c t u r n s so long) so.steps;
-    written = Appends-trans t u v so.text (closing (Refused 0 Length)) so.written wrote;
+    written = Appends-trans t u v so.text (ending_text (Refused 0 Length)) so.written wrote;
   });
 }
 long_stops a b c t u v r n s limits early.WriteFault so long wrote = record {
   script = so.used ++ long.bytes;
   lines = so.lines;
   rest = [];
-  text = so.text ++ closing (Refused 0 Length);
+  text = so.text ++ ending_text (Refused 0 Length);
   read = so_far a b c t u r n s long.bytes so long.taken;
   ready = inl (append-nil so.lines ∙ sym (long_lines a b c t u r n s so long));
   due = inl (
@@ -233,7 +233,7 @@ long_stops a b c t u v r n s limits early.WriteFault so long wrote = record {
     inr (refl, sym (ap last_of (long_is a b c t u r n s so long))),
     folds_all (Refused 0 Length) no_names s so.lines so.text so.steps,
   );
-  written = front_after t u v so.text (closing (Refused 0 Length)) so.written wrote;
+  written = front_after t u v so.text (ending_text (Refused 0 Length)) so.written wrote;
 }
 long_stops a b c t u v r n s limits (early.NoMemory m) so long stops = absurd stops
 long_stops a b c t u v r n s limits early.ReadFault so long stops = absurd stops

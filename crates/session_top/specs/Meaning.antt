@@ -11,9 +11,9 @@ use Rattle.session_values.specs.Names.{ScriptState, no_names}
 use Rattle.session_top.specs.Lines.{lines_in}
 
 -- how a script ends: all its lines are done, or one is refused; line 0 stands for the script as a whole
-pub data Ending : Type 0 where
-  Done : Ending
-  Refused : (line : ℕ) (refusal : Refusal) → Ending
+pub data ScriptEnding : Type 0 where
+  Done : ScriptEnding
+  Refused : (line : ℕ) (refusal : Refusal) → ScriptEnding
 
 -- the word for a kind of refusal
 abbrev pub kind_word : Kind → List ℕ
@@ -40,9 +40,9 @@ abbrev pub error_line : ℕ → Refusal → List ℕ
 error_line line refusal = codes "error " ++ decimal line ++ (codes " " ++ refusal_word refusal ++ codes "\n")
 
 -- what is written at an ending
-abbrev pub closing : Ending → List ℕ
-closing Done = []
-closing (Refused line refusal) = error_line line refusal
+abbrev pub ending_text : ScriptEnding → List ℕ
+ending_text Done = []
+ending_text (Refused line refusal) = error_line line refusal
 
 -- From a state these lines are done, one after another: the state after them, and their text.
 abbrev pub AllDone : ScriptState → List (List ℕ) → ScriptState → List ℕ → Type 0
@@ -51,12 +51,12 @@ AllDone before (line ∷ lines) after text = (mid : ScriptState) × (first : Lis
     × Line before line mid first × AllDone mid lines after rest × (text ≡ first ++ rest)
 
 -- From a state, the lines from this number on are done up to the first that is refused; where none is, `last` comes.
-abbrev pub Folds : Ending → ℕ → ScriptState → List (List ℕ) → List ℕ → Ending → Type 0
-Folds last number before [] text ending = (ending ≡ last) × (text ≡ closing last)
+abbrev pub Folds : ScriptEnding → ℕ → ScriptState → List (List ℕ) → List ℕ → ScriptEnding → Type 0
+Folds last number before [] text ending = (ending ≡ last) × (text ≡ ending_text last)
 Folds last number before (line ∷ lines) text ending =
     ((mid : ScriptState) × (first : List ℕ) × (rest : List ℕ)
     × Line before line mid first × Folds last (number + 1) mid lines rest ending × (text ≡ first ++ rest))
-    ⊎ ((kind : Kind) × RefusesLine before line kind × (ending ≡ Refused number (OfLine kind)) × (text ≡ closing (Refused number (OfLine kind))))
+    ⊎ ((kind : Kind) × RefusesLine before line kind × (ending ≡ Refused number (OfLine kind)) × (text ≡ ending_text (Refused number (OfLine kind))))
 
 -- a script longer than the limit
 abbrev pub is_long : List ℕ → Bool
@@ -67,10 +67,10 @@ abbrev pub script_lines : List ℕ → List (List ℕ)
 script_lines script = lines_in (is_long script) (take SCRIPT_LIMIT script)
 
 -- the ending where no line is refused
-abbrev pub last_of : Bool → Ending
+abbrev pub last_of : Bool → ScriptEnding
 last_of true = Refused 0 Length
 last_of false = Done
 
 -- from no names, the script has this text and this ending
-abbrev pub Meaning : List ℕ → List ℕ → Ending → Type 0
+abbrev pub Meaning : List ℕ → List ℕ → ScriptEnding → Type 0
 Meaning script text ending = Folds (last_of (is_long script)) 1 no_names (script_lines script) text ending

@@ -13,7 +13,7 @@ use Rattle.session_top.specs.declared.early.Early.{Early}
 use Rattle.session_top.specs.declared.early.Early.TheVariants as early
 use Rattle.session_top.specs.declared.early.Refusal.{Refusal}
 use Rattle.session_top.specs.declared.early.Refusal.TheVariants.{OfLine}
-use Rattle.session_top.specs.Meaning.{Refused, closing}
+use Rattle.session_top.specs.Meaning.{Refused, ending_text}
 use Rattle.session_top.specs.declared.top.Ended.{Ended}
 use Rattle.session_top.specs.Stops.{StopsScript, stop_line, stop_status}
 use Rattle.session_top.specs.Limits.{Limits}
@@ -21,8 +21,8 @@ use Rattle.session_top.specs.Told.{plain}
 
 -- the error line of this refusal was written, or a front of it
 abbrev pub ErrorEnds : Option (List ℕ) → Option (List ℕ) → ℕ → Refusal → Early → Type 0
-ErrorEnds taken taken' number refusal (early.Refused n) = (n ≡ number) × Appends taken taken' (closing (Refused number refusal))
-ErrorEnds taken taken' number refusal early.WriteFault = AppendsFront taken taken' (closing (Refused number refusal))
+ErrorEnds taken taken' number refusal (early.Refused n) = (n ≡ number) × Appends taken taken' (ending_text (Refused number refusal))
+ErrorEnds taken taken' number refusal early.WriteFault = AppendsFront taken taken' (ending_text (Refused number refusal))
 ErrorEnds taken taken' number refusal (early.NoMemory n) = ⊥
 ErrorEnds taken taken' number refusal early.ReadFault = ⊥
 ErrorEnds taken taken' number refusal (early.Stopped n kept) = ⊥
@@ -39,13 +39,13 @@ StopEnds taken taken' number state trail early.ReadFault = ⊥
 -- what is written of a line
 abbrev pub IsDueOf : (limits : Limits) → ScriptState → List ℕ → ℕ → List ℕ → Type 0
 IsDueOf limits before line number text = ((after : ScriptState) × Line before line after text)
-    ⊎ ((kind : Kind) × RefusesLine before line kind × (text ≡ closing (Refused number (OfLine kind))))
+    ⊎ ((kind : Kind) × RefusesLine before line kind × (text ≡ ending_text (Refused number (OfLine kind))))
     ⊎ ((kept : Option Shown) × (trail : Option KeptTrail) × StopsScript limits before line kept trail × (text ≡ stop_line kept trail))
 
 -- a line was not done to its end
 abbrev pub LineStops : Option (List ℕ) → Option (List ℕ) → (limits : Limits) → ScriptState → List ℕ → ℕ → Early → Type 0
 LineStops taken taken' limits before line number (early.Refused n) =
-    (n ≡ number) × ((kind : Kind) × RefusesLine before line kind × Appends taken taken' (closing (Refused number (OfLine kind))))
+    (n ≡ number) × ((kind : Kind) × RefusesLine before line kind × Appends taken taken' (ending_text (Refused number (OfLine kind))))
 LineStops taken taken' limits before line number early.WriteFault =
     (text : List ℕ) × IsDueOf limits before line number text × AppendsFront taken taken' text
 LineStops taken taken' limits before line number (early.NoMemory n) = (n ≡ number) × Keeps taken taken'

@@ -12,16 +12,16 @@ use Rattle.session_top.specs.declared.TheConstants.{SCRIPT_LIMIT}
 use Rattle.session_top.specs.Lines.{whole_lines}
 use Rattle.session_values.specs.Names.{ScriptState, no_names}
 use Rattle.session_top.specs.Stops.{StopsScript, stop_line}
-use Rattle.session_top.specs.Meaning.{Ending, Done, Refused, Meaning, Folds, AllDone, script_lines, last_of, is_long}
+use Rattle.session_top.specs.Meaning.{ScriptEnding, Done, Refused, Meaning, Folds, AllDone, script_lines, last_of, is_long}
 use Rattle.session_top.specs.Limits.{Limits}
 
 -- the lines that this ending rests on are whole in the bytes read, or the input is at its end
-abbrev pub IsSettled : List ℕ → Option (List ℕ) → Ending → Type 0
+abbrev pub IsSettled : List ℕ → Option (List ℕ) → ScriptEnding → Type 0
 IsSettled script left Done = IsAtEnd left
 IsSettled script left (Refused line refusal) = (line ≤ length (whole_lines script)) ⊎ IsAtEnd left
 
 -- the bytes that were read have this meaning, and its text is what was written
-pub record Meant (left left' taken taken' : Option (List ℕ)) (ending : Ending) : Type 0 where
+pub record Meant (left left' taken taken' : Option (List ℕ)) (ending : ScriptEnding) : Type 0 where
   pub script : List ℕ
   pub text : List ℕ
   pub read : Consumes left left' script
@@ -65,7 +65,7 @@ pub record MemoryCut (left left' taken taken' : Option (List ℕ)) (line : ℕ) 
   pub written : Appends taken taken' text
 
 -- the last line is due once each line before it is done
-abbrev pub EndsAtLast : Ending → List (List ℕ) → Ending → Type 0
+abbrev pub EndsAtLast : ScriptEnding → List (List ℕ) → ScriptEnding → Type 0
 EndsAtLast last rest final = (final ≡ Done) ⊎ ((rest ≡ []) × (final ≡ last))
 
 -- the text of these lines and the stop line of the first line of the rest
@@ -82,9 +82,9 @@ pub record IsStopText (limits : Limits) (lines rest : List (List ℕ)) (text : L
   pub parts : text ≡ done ++ stop_line kept trail
 
 -- the text that is due of these lines: their own with the error line, if one is due, or with a stop line
-abbrev pub IsTextDue : (limits : Limits) → Ending → (lines rest : List (List ℕ)) → List ℕ → Type 0
+abbrev pub IsTextDue : (limits : Limits) → ScriptEnding → (lines rest : List (List ℕ)) → List ℕ → Type 0
 IsTextDue limits last lines rest text =
-    ((final : Ending) × (ending : Ending) × EndsAtLast last rest final × Folds final 1 no_names lines text ending)
+    ((final : ScriptEnding) × (ending : ScriptEnding) × EndsAtLast last rest final × Folds final 1 no_names lines text ending)
     ⊎ IsStopText limits lines rest text
 
 -- a front was written of the text of the first lines and the error line or stop line, if one was due
@@ -134,12 +134,12 @@ ScriptStops left left' taken taken' limits (early.NoMemory n) = MemoryCut left l
 ScriptStops left left' taken taken' limits (early.Stopped n kept) = Stopped left left' taken taken' limits n kept.state kept.trail
 
 -- the status and the line are those of this ending
-abbrev pub IsToldAs : ℕ → ℕ → Ending → Type 0
+abbrev pub IsToldAs : ℕ → ℕ → ScriptEnding → Type 0
 IsToldAs status line Done = (status ≡ 0) × (line ≡ 0)
 IsToldAs status line (Refused n refusal) = (status ≡ 1) × (line ≡ n)
 
 -- Where the source tells a script of this meaning, the answer is its ending and the bytes are its text; or memory ran out, or a run was
 -- stopped by its budget or by a degree.
 abbrev pub IsComplete : Option (List ℕ) → Option (List ℕ) → Option (List ℕ) → Option (List ℕ) → ℕ → ℕ → Type 0
-IsComplete left left' taken taken' status line = (script text : List ℕ) (ending : Ending) → left ≡ Some script → Meaning script text ending
+IsComplete left left' taken taken' status line = (script text : List ℕ) (ending : ScriptEnding) → left ≡ Some script → Meaning script text ending
     → (status ≡ 5) ⊎ (status ≡ 6) ⊎ (status ≡ 7) ⊎ (IsToldAs status line ending × Appends taken taken' text × (ending ≡ Done → IsAtEnd left'))

@@ -10,7 +10,7 @@ use Rattle.formal_sums.proofs.Multiplying.{weighted_sum-product}
 use Rattle.formal_sums.proofs.WeightedSums.{indicator_other, weighted_sum_zero, weighted_sum_zero_mod}
 use Rattle.formal_sums.specs.FormalSums.{FormalSum, IsSame, Key, coefficient, indicator, product, shift, weighted_sum}
 use Rattle.sparse_poly.specs.Degrees.{HasDegreeWithin}
-use Rattle.sparse_poly.specs.Powers.{constant, power}
+use Rattle.sparse_poly.specs.Powers.{constant, polynomial_power}
 
 -- the bound holds of the same vector
 pub HasDegreeWithin_same :
@@ -54,8 +54,8 @@ HasDegreeWithin_constant n ws p c = record {
 
 -- the degree of a power is at most its exponent times the degree
 pub HasDegreeWithin_power :
-    {n p d : ℕ} {ws : List ℕ} (v : FormalSum n) (k : ℕ) → HasDegreeWithin ws p d v → HasDegreeWithin ws p (k * d) (power v k)
+    {n p d : ℕ} {ws : List ℕ} (v : FormalSum n) (k : ℕ) → HasDegreeWithin ws p d v → HasDegreeWithin ws p (k * d) (polynomial_power v k)
 HasDegreeWithin_power {n} {p} {d} {ws} v zero h = let z : 0 ≡ 0 * d = omega arith in subst (λ e. HasDegreeWithin ws p e (constant n 1)) z (HasDegreeWithin_constant n ws p 1)
 HasDegreeWithin_power {n} {p} {d} {ws} v (suc k) h =
     let e : d + k * d ≡ suc k * d = omega arith in
-    subst (λ e. HasDegreeWithin ws p e (product v (power v k))) e (HasDegreeWithin_product v (power v k) h (HasDegreeWithin_power v k h))
+    subst (λ e. HasDegreeWithin ws p e (product v (polynomial_power v k))) e (HasDegreeWithin_product v (polynomial_power v k) h (HasDegreeWithin_power v k h))

@@ -20,7 +20,7 @@ use Rattle.sparse_poly.proofs.Terms.{HasDegreeWithin_of, HasPositions_of, IsPoly
 use Rattle.sparse_poly.proofs.TopDegrees.{Occurs_within}
 use Rattle.sparse_poly.specs.Degrees.{HasDegreeWithin, IsWithinDegree}
 use Rattle.sparse_poly.specs.PowerParts.{IsPowerOver}
-use Rattle.sparse_poly.specs.Powers.{power}
+use Rattle.sparse_poly.specs.Powers.{polynomial_power}
 use Rattle.sparse_poly.specs.Stops.{OccursInPolynomial, PowersFit}
 use Rattle.sparse_poly.specs.TermPowers.{AreTermsWithin, StandForPower, raised_monomials}
 
@@ -33,11 +33,11 @@ pub PowersFit_within : {n p : ℕ} (d : ℕ) (ws : List ℕ) (v : FormalSum n) (
 PowersFit_within {n} {p} d ws v k bound small = fits
   where
     fits :
-        (s t : ℕ) (a b : Exponents n) → s + t ≤ k → OccursInPolynomial p (power v s) a → OccursInPolynomial p (power v t) b
+        (s t : ℕ) (a b : Exponents n) → s + t ≤ k → OccursInPolynomial p (polynomial_power v s) a → OccursInPolynomial p (polynomial_power v t) b
         → weighted_degree ws a + weighted_degree ws b ≤ 65535
     fits s t a b le oa ob =
-        let left : weighted_degree ws a ≤ s * d = Occurs_within (power v s) a (HasDegreeWithin_power v s bound) oa in
-        let right : weighted_degree ws b ≤ t * d = Occurs_within (power v t) b (HasDegreeWithin_power v t bound) ob in
+        let left : weighted_degree ws a ≤ s * d = Occurs_within (polynomial_power v s) a (HasDegreeWithin_power v s bound) oa in
+        let right : weighted_degree ws b ≤ t * d = Occurs_within (polynomial_power v t) b (HasDegreeWithin_power v t bound) ob in
         let most : (s + t) * d ≤ k * d = mul-le-mul_right d le in
         let split : (s + t) * d ≡ s * d + t * d = omega arith in
         omega arith
@@ -50,11 +50,11 @@ module _ (ring : Ring) (compare : (n : ℕ) → Key n → Key n → Ordering) {r
   -- a vector that is the power k, within small degrees
   pub power_over :
       (k : ℕ) (v : List (CodeKey × ℕ)) → k * d ≤ 65535 → IsVectorOver ring compare v
-      → StandsFor ring v (power (sum_of (variables ring) base) k) → IsPowerOver ring compare base k v
+      → StandsFor ring v (polynomial_power (sum_of (variables ring) base) k) → IsPowerOver ring compare base k v
   power_over k v small hv same = record {
     power_is = record {
       vector = hv;
-      positions = HasPositions_of order ring.weights ring.modulus.value v (power (sum_of (variables ring) base) k) hv same (IsPolynomial_power (sum_of (variables ring) base) k);
+      positions = HasPositions_of order ring.weights ring.modulus.value v (polynomial_power (sum_of (variables ring) base) k) hv same (IsPolynomial_power (sum_of (variables ring) base) k);
       same = same;
     };
     fits = PowersFit_within d ring.weights (sum_of (variables ring) base) k (HasDegreeWithin_of ring.weights ring.modulus.value base (each_weighed (variables ring) ring.weights ring.modulus.value base vector.each) within) small;
@@ -63,7 +63,7 @@ module _ (ring : Ring) (compare : (n : ℕ) → Key n → Key n → Ordering) {r
   -- the same of a result
   pub power_over_result :
       {E : Type 0} (k : ℕ) (answer : Result (List (CodeKey × ℕ)) E) → k * d ≤ 65535 → IfOk answer (IsVectorOver ring compare)
-      → IfOk answer (λ v. StandsFor ring v (power (sum_of (variables ring) base) k)) → IfOk answer (IsPowerOver ring compare base k)
+      → IfOk answer (λ v. StandsFor ring v (polynomial_power (sum_of (variables ring) base) k)) → IfOk answer (IsPowerOver ring compare base k)
   power_over_result k (Ok v) small hv same = power_over k v small hv same
   power_over_result k (Err e) small hv same = tt
 
@@ -74,16 +74,16 @@ module _ (ring : Ring) (compare : (n : ℕ) → Key n → Key n → Ordering) {r
   -- a power of a power
   pub lifted_same :
       (i j k : ℕ) (high v : List (CodeKey × ℕ)) → k ≡ i * j → IsPowerOver ring compare base i high
-      → StandsFor ring v (power (sum_of (variables ring) high) j) → StandsFor ring v (power (sum_of (variables ring) base) k)
+      → StandsFor ring v (polynomial_power (sum_of (variables ring) high) j) → StandsFor ring v (polynomial_power (sum_of (variables ring) base) k)
   lifted_same i j k high v e h same =
       let m : ℕ = variables ring in
       IsSame_trans same
-      (IsSame_trans (IsSame_power positive (sum_of m high) (power (sum_of m base) i) j h.power_is.same) (power_power positive (sum_of m base) i j k e))
+      (IsSame_trans (IsSame_power positive (sum_of m high) (polynomial_power (sum_of m base) i) j h.power_is.same) (power_power positive (sum_of m base) i j k e))
 
   -- the power p of a power, as a power
   pub lifted_over :
       (i k : ℕ) (high v : List (CodeKey × ℕ)) → k ≡ ring.modulus.value * i → k * d ≤ 65535 → IsPowerOver ring compare base i high
-      → IsVectorOver ring compare v → StandsFor ring v (power (sum_of (variables ring) high) ring.modulus.value) → IsPowerOver ring compare base k v
+      → IsVectorOver ring compare v → StandsFor ring v (polynomial_power (sum_of (variables ring) high) ring.modulus.value) → IsPowerOver ring compare base k v
   lifted_over i k high v e small h hv same =
       let q : ℕ = ring.modulus.value in
       let turned : q * i ≡ i * q = omega arith in
@@ -100,11 +100,11 @@ module _ (ring : Ring) (compare : (n : ℕ) → Key n → Key n → Ordering) {r
   -- a product of powers
   pub joined_same :
       (i j k : ℕ) (a b v : List (CodeKey × ℕ)) → i + j ≡ k → IsPowerOver ring compare base i a → IsPowerOver ring compare base j b
-      → StandsFor ring v (product (sum_of (variables ring) a) (sum_of (variables ring) b)) → StandsFor ring v (power (sum_of (variables ring) base) k)
+      → StandsFor ring v (product (sum_of (variables ring) a) (sum_of (variables ring) b)) → StandsFor ring v (polynomial_power (sum_of (variables ring) base) k)
   joined_same i j k a b v e ha hb same =
       let m : ℕ = variables ring in
       IsSame_trans same
-      (IsSame_trans (IsSame_product_both positive (sum_of m a) (sum_of m b) (power (sum_of m base) i) (power (sum_of m base) j) ha.power_is.same hb.power_is.same)
+      (IsSame_trans (IsSame_product_both positive (sum_of m a) (sum_of m b) (polynomial_power (sum_of m base) i) (polynomial_power (sum_of m base) j) ha.power_is.same hb.power_is.same)
       (IsSame_sym (power_add positive (sum_of m base) i j k e)))
 
   pub joined_result :
@@ -148,7 +148,7 @@ terms_within ring d (t ∷ v) h p w =
 pub prime_same :
     (ring other : Ring) (terms xs v : List (CodeKey × ℕ)) → other ≡ ring → xs ≡ v → IsDomain ring.modulus.value → HasPositions 1 v
     → sum_of (variables other) terms ≡ raised_monomials other.modulus.value (sum_of (variables other) xs)
-    → IsSame ring.modulus.value (sum_of (variables ring) terms) (power (sum_of (variables ring) v) ring.modulus.value)
+    → IsSame ring.modulus.value (sum_of (variables ring) terms) (polynomial_power (sum_of (variables ring) v) ring.modulus.value)
 prime_same ring other terms xs v e q domain positions h =
     let m : ℕ = variables ring in
     let here : sum_of m terms ≡ raised_monomials ring.modulus.value (sum_of m v) =
@@ -160,19 +160,19 @@ prime_same ring other terms xs v e q domain positions h =
 -- one term, or two, to a power
 pub stand_single :
     (ring : Ring) (n : ℕ) (terms more v : List (CodeKey × ℕ)) (first : CodeKey × ℕ) → terms ≡ first ∷ more → more ≡ []
-    → AreTermsOver ring v → StandsFor ring v (power (sum_of (variables ring) (first ∷ [])) n) → StandForPower ring terms n v
+    → AreTermsOver ring v → StandsFor ring v (polynomial_power (sum_of (variables ring) (first ∷ [])) n) → StandForPower ring terms n v
 stand_single ring n terms more v first e q over same = record {
   terms = over;
-  same = subst (λ xs. StandsFor ring v (power (sum_of (variables ring) xs) n)) (sym (e ∙ ap (λ xs. first ∷ xs) q)) same;
+  same = subst (λ xs. StandsFor ring v (polynomial_power (sum_of (variables ring) xs) n)) (sym (e ∙ ap (λ xs. first ∷ xs) q)) same;
 }
 
 pub stand_double :
     (ring : Ring) (n : ℕ) (terms more rest v : List (CodeKey × ℕ)) (first second : CodeKey × ℕ) → terms ≡ first ∷ more → more ≡ second ∷ rest
-    → length rest ≡ 0 → AreTermsOver ring v → StandsFor ring v (power (sum_of (variables ring) (first ∷ second ∷ [])) n)
+    → length rest ≡ 0 → AreTermsOver ring v → StandsFor ring v (polynomial_power (sum_of (variables ring) (first ∷ second ∷ [])) n)
     → StandForPower ring terms n v
 stand_double ring n terms more rest v first second e f q over same = record {
   terms = over;
-  same = subst (λ xs. StandsFor ring v (power (sum_of (variables ring) xs) n)) (sym (e ∙ ap (λ xs. first ∷ xs) (f ∙ ap (λ ys. second ∷ ys) (empty rest q)))) same;
+  same = subst (λ xs. StandsFor ring v (polynomial_power (sum_of (variables ring) xs) n)) (sym (e ∙ ap (λ xs. first ∷ xs) (f ∙ ap (λ ys. second ∷ ys) (empty rest q)))) same;
 }
   where
     empty : (xs : List (CodeKey × ℕ)) → length xs ≡ 0 → xs ≡ []

@@ -13,7 +13,7 @@ use Rattle.formal_sums.specs.FormalSums.{FormalSum, IsPolynomial, IsSame, coeffi
 use Rattle.sparse_poly.proofs.Choosing.{choose-all, choose-none, choose_above, choose_prime}
 use Rattle.sparse_poly.proofs.Powering.{IsSame_product_second, product_assoc}
 use Rattle.sparse_poly.specs.Binomials.{binary_form, choose}
-use Rattle.sparse_poly.specs.Powers.{constant, power}
+use Rattle.sparse_poly.specs.Powers.{constant, polynomial_power}
 
 -- 0 times anything is nothing
 pub scale_nothing : {n : ℕ} (p c : ℕ) (v : FormalSum n) → IsCongruent p c 0 → IsSame p (scale c (unit n) v) []
@@ -113,7 +113,7 @@ module _ {n p : ℕ} (pos : 0 < p) (u v : FormalSum n) (hu : IsPolynomial u) (hv
   pub form_same : (c d : ℕ → ℕ) (k : ℕ) → ((i : ℕ) → c i ≡ d i) → IsSame p (binary_form c u v k) (binary_form d u v k)
   form_same c d zero e = IsSame_refl p []
   form_same c d (suc k) e =
-      IsSame_append (IsSame_of p _ _ (ap (λ x. scale x (unit n) (power u k)) (e 0)))
+      IsSame_append (IsSame_of p _ _ (ap (λ x. scale x (unit n) (polynomial_power u k)) (e 0)))
       (IsSame_product_second pos v _ _ (form_same (λ i. c (suc i)) (λ i. d (suc i)) k (λ i. e (suc i))))
 
   -- coefficients add up
@@ -123,23 +123,23 @@ module _ {n p : ℕ} (pos : 0 < p) (u v : FormalSum n) (hu : IsPolynomial u) (hv
       let c' : ℕ → ℕ = λ i. c (suc i) in
       let d' : ℕ → ℕ = λ i. d (suc i) in
       IsSame_trans
-      (IsSame_append (scale_sum p (c 0) (d 0) (power u k))
+      (IsSame_append (scale_sum p (c 0) (d 0) (polynomial_power u k))
       (IsSame_trans (IsSame_product_second pos v _ _ (form_sum c' d' k)) (product_append_second v (binary_form c' u v k) (binary_form d' u v k))))
-      (IsSame_crossed p (scale (c 0) (unit n) (power u k)) (scale (d 0) (unit n) (power u k)) (product v (binary_form c' u v k)) (product v (binary_form d' u v k)))
+      (IsSame_crossed p (scale (c 0) (unit n) (polynomial_power u k)) (scale (d 0) (unit n) (polynomial_power u k)) (product v (binary_form c' u v k)) (product v (binary_form d' u v k)))
 
   -- u times a form has one more coefficient, 0, behind
   pub form_first : (c : ℕ → ℕ) (k : ℕ) → c k ≡ 0 → IsSame p (product u (binary_form c u v k)) (binary_form c u v (suc k))
   form_first c zero z =
       IsSame_trans (IsSame_of p _ _ (product_nothing u))
-      (IsSame_append (IsSame_sym (scale_nothing p (c 0) (power u 0) (IsCongruent_of p _ _ z))) (IsSame_of p [] _ (sym (product_nothing v))))
+      (IsSame_append (IsSame_sym (scale_nothing p (c 0) (polynomial_power u 0) (IsCongruent_of p _ _ z))) (IsSame_of p [] _ (sym (product_nothing v))))
   form_first c (suc k) z =
       let c' : ℕ → ℕ = λ i. c (suc i) in
-      IsSame_trans (product_append_second u (scale (c 0) (unit n) (power u k)) (product v (binary_form c' u v k)))
-      (IsSame_append (IsSame_of p _ _ (product_scaled_second (c 0) u (power u k)))
+      IsSame_trans (product_append_second u (scale (c 0) (unit n) (polynomial_power u k)) (product v (binary_form c' u v k)))
+      (IsSame_append (IsSame_of p _ _ (product_scaled_second (c 0) u (polynomial_power u k)))
       (IsSame_trans (product_exchange pos u v (binary_form c' u v k) hu hv) (IsSame_product_second pos v _ _ (form_first c' k z))))
 
   -- the binomial theorem
-  pub binomial_theorem : (k : ℕ) → IsSame p (power (u ++ v) k) (binary_form (choose k) u v (suc k))
+  pub binomial_theorem : (k : ℕ) → IsSame p (polynomial_power (u ++ v) k) (binary_form (choose k) u v (suc k))
   binomial_theorem zero =
       IsSame_trans (IsSame_of p _ _ (sym (append-nil (constant n 1))))
       (IsSame_append (IsSame_of p _ _ (sym (scale-one (constant n 1)))) (IsSame_of p [] _ (sym (product_nothing v))))
@@ -150,32 +150,32 @@ module _ {n p : ℕ} (pos : 0 < p) (u v : FormalSum n) (hu : IsPolynomial u) (hv
       (IsSame_trans (IsSame_sym (form_sum (choose k) (moved (choose k)) (suc (suc k)))) (form_same (λ i. choose k i + moved (choose k) i) (choose (suc k)) (suc (suc k)) pascal))))
     where
       second : IsSame p (product v (binary_form (choose k) u v (suc k))) (binary_form (moved (choose k)) u v (suc (suc k)))
-      second = IsSame_append (IsSame_sym (scale_nothing p 0 (power u (suc k)) (IsCongruent_refl p 0))) (IsSame_refl p (product v (binary_form (choose k) u v (suc k))))
+      second = IsSame_append (IsSame_sym (scale_nothing p 0 (polynomial_power u (suc k)) (IsCongruent_refl p 0))) (IsSame_refl p (product v (binary_form (choose k) u v (suc k))))
 
       pascal : (i : ℕ) → choose k i + moved (choose k) i ≡ choose (suc k) i
       pascal zero = let e : choose k 0 ≡ 1 = choose-none k in omega arith
       pascal (suc i) = omega arith
 
   -- with all coefficients but the last 0
-  pub form_last : (c : ℕ → ℕ) (k : ℕ) → ((i : ℕ) → i < k → IsCongruent p (c i) 0) → IsSame p (binary_form c u v (suc k)) (scale (c k) (unit n) (power v k))
+  pub form_last : (c : ℕ → ℕ) (k : ℕ) → ((i : ℕ) → i < k → IsCongruent p (c i) 0) → IsSame p (binary_form c u v (suc k)) (scale (c k) (unit n) (polynomial_power v k))
   form_last c zero z =
       IsSame_trans (IsSame_append (IsSame_refl p (scale (c 0) (unit n) (constant n 1))) (IsSame_of p _ _ (product_nothing v))) (IsSame_of p _ _ (append-nil _))
   form_last c (suc k) z =
-      IsSame_trans (IsSame_append (scale_nothing p (c 0) (power u (suc k)) (z 0 (omega arith)))
+      IsSame_trans (IsSame_append (scale_nothing p (c 0) (polynomial_power u (suc k)) (z 0 (omega arith)))
       (IsSame_product_second pos v _ _ (form_last (λ i. c (suc i)) k (λ i lt. z (suc i) (omega arith)))))
-      (IsSame_of p _ _ (product_scaled_second (c (suc k)) v (power v k)))
+      (IsSame_of p _ _ (product_scaled_second (c (suc k)) v (polynomial_power v k)))
 
   -- modulo a prime p the power p of a sum is the sum of the powers p
-  pub frobenius_sum : IsDomain p → IsSame p (power (u ++ v) p) (power u p ++ power v p)
+  pub frobenius_sum : IsDomain p → IsSame p (polynomial_power (u ++ v) p) (polynomial_power u p ++ polynomial_power v p)
   frobenius_sum d = by p refl
     where
-      by : (q : ℕ) → p ≡ q → IsSame p (power (u ++ v) q) (power u q ++ power v q)
+      by : (q : ℕ) → p ≡ q → IsSame p (polynomial_power (u ++ v) q) (polynomial_power u q ++ polynomial_power v q)
       by zero e = absurd (omega arith)
       by (suc q) e =
           let coefficient_is : choose (suc q) (suc q) ≡ 1 = choose-all (suc q) in
           let first : choose (suc q) 0 ≡ 1 = choose-none (suc q) in
           IsSame_trans (binomial_theorem (suc q))
-          (IsSame_append (IsSame_of p _ _ (ap (λ c. scale c (unit n) (power u (suc q))) first ∙ scale-one (power u (suc q))))
+          (IsSame_append (IsSame_of p _ _ (ap (λ c. scale c (unit n) (polynomial_power u (suc q))) first ∙ scale-one (polynomial_power u (suc q))))
           (IsSame_product_second pos v _ _
           (IsSame_trans (form_last (λ i. choose (suc q) (suc i)) q (λ i lt. subst (λ x. IsCongruent p (choose x (suc i)) 0) e (choose_prime p (suc i) d (omega arith) (omega arith))))
-          (IsSame_of p _ _ (ap (λ c. scale c (unit n) (power v q)) coefficient_is ∙ scale-one (power v q))))))
+          (IsSame_of p _ _ (ap (λ c. scale c (unit n) (polynomial_power v q)) coefficient_is ∙ scale-one (polynomial_power v q))))))

@@ -9,7 +9,7 @@ use Rattle.formal_sums.proofs.WeightedSums.{coefficient-append, indicator_same}
 use Rattle.formal_sums.specs.FormalSums.{FormalSum, IsPolynomial, IsSame, Key, coefficient, indicator, product}
 use Rattle.sparse_poly.proofs.Forms.{frobenius_sum}
 use Rattle.sparse_poly.proofs.Powering.{IsSame_power}
-use Rattle.sparse_poly.specs.Powers.{power}
+use Rattle.sparse_poly.specs.Powers.{polynomial_power}
 use Rattle.sparse_poly.specs.TermPowers.{monomial_power, raised_monomials}
 
 pub monomial_power-none : {n : ℕ} (m : Exponents n) → monomial_power 0 m ≡ unit n
@@ -25,7 +25,7 @@ monomial_power-suc k (cons a m) =
     ap₂ cons e (monomial_power-suc k m)
 
 -- the power of one term
-pub power_term : {n : ℕ} (m : Exponents n) (c k : ℕ) → power (((0, m), c) ∷ []) k ≡ ((0, monomial_power k m), c ^ k) ∷ []
+pub power_term : {n : ℕ} (m : Exponents n) (c k : ℕ) → polynomial_power (((0, m), c) ∷ []) k ≡ ((0, monomial_power k m), c ^ k) ∷ []
 power_term {n} m c zero =
     let one : 1 ≡ c ^ 0 = sym (pow-zero c) in
     ap₂ (λ l d. ((0, l), d) ∷ []) (sym (monomial_power-none m)) one
@@ -56,7 +56,7 @@ fermat p (suc c) d =
     (IsCongruent_trans (whole.by_key one)
     (IsCongruent_trans (IsCongruent_of p _ _ sides) (IsCongruent_trans (IsCongruent_add (fermat p c d) (IsCongruent_of p _ _ ones)) (IsCongruent_of p _ _ (omega arith)))))
   where
-    at : (c : ℕ) → coefficient (power (single c) p) one ≡ c ^ p
+    at : (c : ℕ) → coefficient (polynomial_power (single c) p) one ≡ c ^ p
     at c =
         let i : indicator (0, nil) (0, monomial_power p (nil)) ≡ 1 = indicator_same (0, nil) (0, monomial_power p (nil)) refl in
         ap (λ v. coefficient v (0, nil)) (power_term (nil) c p) ∙ ap (λ x. c ^ p * x + 0) i ∙ omega arith
@@ -67,23 +67,23 @@ fermat p (suc c) d =
     added : IsSame p (single (suc c)) (single c ++ single 1)
     added = record { by_key = λ k. IsCongruent_of p _ _ (omega arith) }
 
-    whole : IsSame p (power (single (suc c)) p) (power (single c) p ++ power (single 1) p)
+    whole : IsSame p (polynomial_power (single (suc c)) p) (polynomial_power (single c) p ++ polynomial_power (single 1) p)
     whole = IsSame_trans (IsSame_power positive (single (suc c)) (single c ++ single 1) p added) (frobenius_sum positive (single c) (single 1) (refl, tt) (refl, tt) d)
 
-    sides : coefficient (power (single c) p ++ power (single 1) p) one ≡ c ^ p + 1 ^ p
-    sides = coefficient-append (power (single c) p) (power (single 1) p) one ∙ ap₂ (λ x y. x + y) (at c) (at 1)
+    sides : coefficient (polynomial_power (single c) p ++ polynomial_power (single 1) p) one ≡ c ^ p + 1 ^ p
+    sides = coefficient-append (polynomial_power (single c) p) (polynomial_power (single 1) p) one ∙ ap₂ (λ x y. x + y) (at c) (at 1)
 
     ones : 1 ^ p ≡ 1
     ones = one-pow p
 
 -- the power p is the sum of the terms with their monomials to the power p, modulo a prime p
-pub frobenius : {n p : ℕ} → IsDomain p → (v : FormalSum n) → IsPolynomial v → IsSame p (power v p) (raised_monomials p v)
+pub frobenius : {n p : ℕ} → IsDomain p → (v : FormalSum n) → IsPolynomial v → IsSame p (polynomial_power v p) (raised_monomials p v)
 frobenius {n} {p} d [] h = by p (let h : 1 < p = d.above_one in omega arith)
   where
     nothing : FormalSum n
     nothing = []
 
-    by : (q : ℕ) → 0 < q → IsSame p (power nothing q) nothing
+    by : (q : ℕ) → 0 < q → IsSame p (polynomial_power nothing q) nothing
     by zero lt = absurd (omega arith)
     by (suc q) lt = IsSame_refl p []
 frobenius {n} {p} d (t ∷ v) h =
@@ -92,9 +92,9 @@ frobenius {n} {p} d (t ∷ v) h =
     positive : 0 < p
     positive = let h : 1 < p = d.above_one in omega arith
 
-    first : IsSame p (power (t ∷ []) p) (((t.0.0, monomial_power p t.0.1), t.1) ∷ [])
+    first : IsSame p (polynomial_power (t ∷ []) p) (((t.0.0, monomial_power p t.0.1), t.1) ∷ [])
     first =
         let z : t.0.0 ≡ 0 = h.0 in
         IsSame_trans
-        (IsSame_of p _ _ (ap (λ i. power (((i, t.0.1), t.1) ∷ []) p) z ∙ power_term t.0.1 t.1 p ∙ ap (λ i. ((i, monomial_power p t.0.1), t.1 ^ p) ∷ []) (sym z)))
+        (IsSame_of p _ _ (ap (λ i. polynomial_power (((i, t.0.1), t.1) ∷ []) p) z ∙ power_term t.0.1 t.1 p ∙ ap (λ i. ((i, monomial_power p t.0.1), t.1 ^ p) ∷ []) (sym z)))
         (record { by_key = λ k. IsCongruent_add (IsCongruent_multiply (fermat p t.1 d) (IsCongruent_refl p _)) (IsCongruent_refl p 0) })

@@ -16,7 +16,7 @@ use Rattle.term_lists.specs.declared.ring.Ring.{Ring}
 use Rattle.sparse_poly.proofs.Expanding.{expanding_goes_on, mixed_product}
 use Rattle.sparse_poly.proofs.Powering.{IsPolynomial_power, product_one}
 use Rattle.sparse_poly.specs.Binomials.{IsExpanding, choose}
-use Rattle.sparse_poly.specs.Powers.{constant, power}
+use Rattle.sparse_poly.specs.Powers.{constant, polynomial_power}
 use Rattle.sparse_poly.specs.TermPowers.{IsMixedTerm, IsTermWithin}
 
 -- a sum of two lists
@@ -31,7 +31,7 @@ pub mixed_same :
     (ring : Ring) (whole c i j : ℕ) (a b t : CodeKey × ℕ) → c ≡ whole % ring.modulus.value → a.0.position ≡ 0 → b.0.position ≡ 0
     → IsMixedTerm ring c i j a b t
     → IsSame ring.modulus.value (sum_of (variables ring) (t ∷ []))
-    (scale whole (unit (variables ring)) (product (power (sum_of (variables ring) (a ∷ [])) i) (power (sum_of (variables ring) (b ∷ [])) j)))
+    (scale whole (unit (variables ring)) (product (polynomial_power (sum_of (variables ring) (a ∷ [])) i) (polynomial_power (sum_of (variables ring) (b ∷ [])) j)))
 mixed_same ring whole c i j a b t e za zb h =
     let m : ℕ = variables ring in
     let q : ℕ = ring.modulus.value in
@@ -67,14 +67,14 @@ binomial_step ring n i d c a b t done more domain le ha hb e h q expanding =
 -- the power of one term
 pub single_same :
     (ring : Ring) (n c : ℕ) (a t : CodeKey × ℕ) → c ≡ 1 % ring.modulus.value → a.0.position ≡ 0 → IsMixedTerm ring c n 0 a a t
-    → StandsFor ring (t ∷ []) (power (sum_of (variables ring) (a ∷ [])) n)
+    → StandsFor ring (t ∷ []) (polynomial_power (sum_of (variables ring) (a ∷ [])) n)
 single_same ring n c a t e z h =
     let m : ℕ = variables ring in
     let q : ℕ = ring.modulus.value in
     let u : FormalSum m = sum_of m (a ∷ []) in
     IsSame_trans (mixed_same ring 1 c n 0 a a t e z z h)
-    (IsSame_trans (IsSame_of q _ _ (scale-one (product (power u n) (constant m 1))))
-    (IsSame_trans (product_comm q (power u n) (constant m 1) (IsPolynomial_power u n) (refl, tt)) (IsSame_of q _ _ (product_one (power u n)))))
+    (IsSame_trans (IsSame_of q _ _ (scale-one (product (polynomial_power u n) (constant m 1))))
+    (IsSame_trans (product_comm q (polynomial_power u n) (constant m 1) (IsPolynomial_power u n) (refl, tt)) (IsSame_of q _ _ (product_one (polynomial_power u n)))))
 
 -- its degree is small
 pub mixed_room : (n i d a b : ℕ) → i ≤ n → a ≤ d → b ≤ d → n * d ≤ 65535 → (n - i) * a + i * b ≤ 65535

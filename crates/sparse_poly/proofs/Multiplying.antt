@@ -8,7 +8,7 @@ use Rattle.term_lists.specs.Vectors.{IsTerm, sum_of}
 use Rattle.term_lists.specs.declared.key.Key.{Key as CodeKey}
 use Rattle.term_lists.specs.declared.stop.VectStop.{VectStop}
 use Rattle.term_lists.specs.declared.stop.VectStop.TheVariants.{Degree, Memory}
-use Rattle.module_vectors.specs.Products.{product_of, sum_of_products}
+use Rattle.module_vectors.specs.Products.{product_of, sum_of_product_list}
 use Rattle.module_vectors.specs.ProductStops.{ProductsFit, ProductsStop}
 use Rattle.module_vectors.specs.declared.product.Product.{Product}
 use Rattle.sparse_poly.proofs.Terms.{each_at, each_of}
@@ -46,7 +46,7 @@ multiples_vectors P v (t ∷ terms) (x ∷ xs) h e = (subst P (sym h.2) e, multi
 -- their sum is the product
 pub multiples_sum :
     (n : ℕ) (v terms : List (CodeKey × ℕ)) (xs : List Product) → AreTermMultiples v terms xs
-    → sum_of_products n xs ≡ product (sum_of n terms) (sum_of n v)
+    → sum_of_product_list n xs ≡ product (sum_of n terms) (sum_of n v)
 multiples_sum n v [] [] h = refl
 multiples_sum n v [] (x ∷ xs) h = absurd h
 multiples_sum n v (t ∷ terms) [] h = absurd h

@@ -23,7 +23,7 @@ use Rattle.sparse_poly.proofs.Terms.{HasDegreeWithin_of, HasMonomial_of, IsPolyn
 use Rattle.sparse_poly.proofs.TopDegrees.{Occurs_within, PowersFit_of}
 use Rattle.sparse_poly.specs.Degrees.{HasDegreeWithin, IsWithinDegree}
 use Rattle.sparse_poly.specs.PowerParts.{IsPower, IsPowerOver, PowerStopsOver}
-use Rattle.sparse_poly.specs.Powers.{constant, power}
+use Rattle.sparse_poly.specs.Powers.{constant, polynomial_power}
 use Rattle.sparse_poly.specs.Stops.{OccursInPolynomial, PowerStops, PowersFit, ProductFits, PolynomialProductStops}
 
 -- a stop of a lower power is one of a higher
@@ -60,10 +60,10 @@ module _ {n r p : ℕ} {compare : Key n → Key n → Ordering} (order : IsKeyOr
   pub power_product :
       (base : FormalSum n) (i j k : ℕ) (a b v : List (CodeKey × ℕ))
       → i + j ≡ k → IsPower ws p compare base i a → IsPower ws p compare base j b
-      → IsSame p (sum_of n v) (product (sum_of n a) (sum_of n b)) → IsSame p (sum_of n v) (power base k)
+      → IsSame p (sum_of n v) (product (sum_of n a) (sum_of n b)) → IsSame p (sum_of n v) (polynomial_power base k)
   power_product base i j k a b v e ha hb same =
       IsSame_trans same
-      (IsSame_trans (IsSame_product_both positive (sum_of n a) (sum_of n b) (power base i) (power base j) ha.same hb.same)
+      (IsSame_trans (IsSame_product_both positive (sum_of n a) (sum_of n b) (polynomial_power base i) (polynomial_power base j) ha.same hb.same)
       (IsSame_sym (power_add positive base i j k e)))
 
   -- where it fits, the powers up to it do
@@ -73,10 +73,10 @@ module _ {n r p : ℕ} {compare : Key n → Key n → Ordering} (order : IsKeyOr
       → PowersFit ws p base k
   power_fits base i j k a b poly e ha hb fits = PowersFit_of ws domain base i j k poly e both
     where
-      both : (x y : Exponents n) → OccursInPolynomial p (power base i) x → OccursInPolynomial p (power base j) y → weighted_degree ws x + weighted_degree ws y ≤ 65535
+      both : (x y : Exponents n) → OccursInPolynomial p (polynomial_power base i) x → OccursInPolynomial p (polynomial_power base j) y → weighted_degree ws x + weighted_degree ws y ≤ 65535
       both x y ox oy =
-          let t = HasMonomial_of order ws p a (power base i) x ha.same ox in
-          let u = HasMonomial_of order ws p b (power base j) y hb.same oy in
+          let t = HasMonomial_of order ws p a (polynomial_power base i) x ha.same ox in
+          let u = HasMonomial_of order ws p b (polynomial_power base j) y hb.same oy in
           let dt = (each_at (IsTerm n ws p) a t.0 ha.vector.each t.1).weighed.degree in
           let du = (each_at (IsTerm n ws p) b u.0 hb.vector.each u.1).weighed.degree in
           let et : weighted_degree ws (exponents_of n t.0.0.monomial.exponents) ≡ weighted_degree ws x = ap (weighted_degree ws) t.2 in
@@ -94,8 +94,8 @@ module _ {n r p : ℕ} {compare : Key n → Key n → Ordering} (order : IsKeyOr
     i,
     j,
     le,
-    Occurs_of order ws p a (power base i) s ha.vector ha.positions ha.same h.0,
-    Occurs_of order ws p b (power base j) t hb.vector hb.positions hb.same h.1,
+    Occurs_of order ws p a (polynomial_power base i) s ha.vector ha.positions ha.same h.0,
+    Occurs_of order ws p b (polynomial_power base j) t hb.vector hb.positions hb.same h.1,
     h.2,
     weighed_of order ws p a s ha.vector h.0,
     weighed_of order ws p b t hb.vector h.1,
@@ -105,7 +105,7 @@ module _ {n r p : ℕ} {compare : Key n → Key n → Ordering} (order : IsKeyOr
   pub power_within :
       (base : List (CodeKey × ℕ)) (k d e : ℕ) (v : List (CodeKey × ℕ))
       → IsVector n ws p compare base → IsWithinDegree d base → e ≡ k * d → IsVector n ws p compare v
-      → IsSame p (sum_of n v) (power (sum_of n base) k) → IsWithinDegree e v
+      → IsSame p (sum_of n v) (polynomial_power (sum_of n base) k) → IsWithinDegree e v
   power_within base k d e v vector within q hv same =
       subst (λ x. IsWithinDegree x v) (sym q)
       (IsWithinDegree_of order ws p v (k * d) hv
@@ -121,8 +121,8 @@ module _ {n r p : ℕ} {compare : Key n → Key n → Ordering} (order : IsKeyOr
       let bound : HasDegreeWithin ws p d (sum_of n base) = HasDegreeWithin_of ws p base (each_weighed n ws p base vector.each) within in
       let i : ℕ = h.0 in
       let j : ℕ = h.1 in
-      let left : weighted_degree ws (exponents_of n s.exponents) ≤ i * d = Occurs_within (power (sum_of n base) i) (exponents_of n s.exponents) (HasDegreeWithin_power (sum_of n base) i bound) h.3 in
-      let right : weighted_degree ws (exponents_of n t.exponents) ≤ j * d = Occurs_within (power (sum_of n base) j) (exponents_of n t.exponents) (HasDegreeWithin_power (sum_of n base) j bound) h.4 in
+      let left : weighted_degree ws (exponents_of n s.exponents) ≤ i * d = Occurs_within (polynomial_power (sum_of n base) i) (exponents_of n s.exponents) (HasDegreeWithin_power (sum_of n base) i bound) h.3 in
+      let right : weighted_degree ws (exponents_of n t.exponents) ≤ j * d = Occurs_within (polynomial_power (sum_of n base) j) (exponents_of n t.exponents) (HasDegreeWithin_power (sum_of n base) j bound) h.4 in
       let ds = h.6.degree in
       let dt = h.7.degree in
       let most : (i + j) * d ≤ k * d = mul-le-mul_right d h.2 in

@@ -7,7 +7,7 @@ use Rattle.formal_sums.proofs.Multiplying.{IsSame_product}
 use Rattle.formal_sums.proofs.Sameness.{IsSame_append, IsSame_of, IsSame_refl, IsSame_scale, IsSame_sym, IsSame_trans}
 use Rattle.formal_sums.proofs.WeightedSums.{Each_append}
 use Rattle.formal_sums.specs.FormalSums.{FormalSum, IsPolynomial, IsSame, product, scale}
-use Rattle.sparse_poly.specs.Powers.{constant, power}
+use Rattle.sparse_poly.specs.Powers.{constant, polynomial_power}
 
 -- the product depends on the second factor's coefficients alone
 pub IsSame_product_second :
@@ -35,21 +35,21 @@ product_one v = append-nil (scale 1 (unit _) v) ∙ scale-one v
 
 -- powers of the same are the same
 pub IsSame_power :
-    {n p : ℕ} → 0 < p → (v w : FormalSum n) (k : ℕ) → IsSame p v w → IsSame p (power v k) (power w k)
+    {n p : ℕ} → 0 < p → (v w : FormalSum n) (k : ℕ) → IsSame p v w → IsSame p (polynomial_power v k) (polynomial_power w k)
 IsSame_power {n} {p} pos v w zero h = IsSame_refl p (constant n 1)
-IsSame_power pos v w (suc k) h = IsSame_product_both pos v (power v k) w (power w k) h (IsSame_power pos v w k h)
+IsSame_power pos v w (suc k) h = IsSame_product_both pos v (polynomial_power v k) w (polynomial_power w k) h (IsSame_power pos v w k h)
 
 -- exponents add up
 pub power_add :
     {n p : ℕ} → 0 < p → (v : FormalSum n) (i j k : ℕ) → i + j ≡ k
-    → IsSame p (power v k) (product (power v i) (power v j))
+    → IsSame p (polynomial_power v k) (product (polynomial_power v i) (polynomial_power v j))
 power_add {n} {p} pos v zero j k e =
-    IsSame_of p (power v k) (product (constant n 1) (power v j)) (ap (power v) (sym e ∙ zero-add j) ∙ sym (product_one (power v j)))
+    IsSame_of p (polynomial_power v k) (product (constant n 1) (polynomial_power v j)) (ap (polynomial_power v) (sym e ∙ zero-add j) ∙ sym (product_one (polynomial_power v j)))
 power_add {n} {p} pos v (suc i) j k e =
     let d : suc (i + j) ≡ k = omega arith in
-    subst (λ l. IsSame p (power v l) (product (product v (power v i)) (power v j))) d
-    (IsSame_trans (IsSame_product_second pos v (power v (i + j)) (product (power v i) (power v j)) (power_add pos v i j (i + j) refl))
-    (IsSame_sym (product_assoc p v (power v i) (power v j))))
+    subst (λ l. IsSame p (polynomial_power v l) (product (product v (polynomial_power v i)) (polynomial_power v j))) d
+    (IsSame_trans (IsSame_product_second pos v (polynomial_power v (i + j)) (product (polynomial_power v i) (polynomial_power v j)) (power_add pos v i j (i + j) refl))
+    (IsSame_sym (product_assoc p v (polynomial_power v i) (polynomial_power v j))))
 
 -- products have the second factor's positions
 pub IsPolynomial_product : {n : ℕ} (u v : FormalSum n) → IsPolynomial v → IsPolynomial (product u v)
@@ -61,6 +61,6 @@ IsPolynomial_product (t ∷ u) v h = Each_append _ (scale t.1 t.0.1 v) (product 
     scaled (s ∷ v) h = (h.0, scaled v h.1)
 
 -- powers are polynomials
-pub IsPolynomial_power : {n : ℕ} (v : FormalSum n) (k : ℕ) → IsPolynomial (power v k)
+pub IsPolynomial_power : {n : ℕ} (v : FormalSum n) (k : ℕ) → IsPolynomial (polynomial_power v k)
 IsPolynomial_power v zero = (refl, tt)
-IsPolynomial_power v (suc k) = IsPolynomial_product v (power v k) (IsPolynomial_power v k)
+IsPolynomial_power v (suc k) = IsPolynomial_product v (polynomial_power v k) (IsPolynomial_power v k)

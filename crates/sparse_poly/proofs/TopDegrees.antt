@@ -27,7 +27,7 @@ use Rattle.bases.specs.Settings.{IsLawful, Setting}
 use Rattle.sparse_poly.proofs.Bounding.{HasDegreeWithin_power, product_weight}
 use Rattle.sparse_poly.proofs.Powering.{IsPolynomial_power}
 use Rattle.sparse_poly.specs.Degrees.{HasDegreeWithin}
-use Rattle.sparse_poly.specs.Powers.{constant, power}
+use Rattle.sparse_poly.specs.Powers.{constant, polynomial_power}
 use Rattle.sparse_poly.specs.Stops.{OccursInPolynomial, PowersFit}
 
 -- a polynomial has no coefficient at other positions
@@ -167,12 +167,12 @@ module _ {n : ℕ} (S : Setting n) (lawful : IsLawful S) where
   pub IsLead_power :
       (ws : List ℕ) (v : FormalSum n) (a : Exponents n)
       → IsPolynomial v → IsLead S v (0, a) → (k : ℕ)
-      → (m : Exponents n) × (weighted_degree ws m ≡ k * weighted_degree ws a) × IsLead S (power v k) (0, m)
+      → (m : Exponents n) × (weighted_degree ws m ≡ k * weighted_degree ws a) × IsLead S (polynomial_power v k) (0, m)
   IsLead_power ws v a h lead zero = (unit n, weighted_degree-unit n ws ∙ omega arith, IsLead_one)
   IsLead_power ws v a h lead (suc k) =
       let before = IsLead_power ws v a h lead k in
       let d = before.1 in
-      (times a before.0, weighted_degree-times ws a before.0 ∙ omega arith, IsLead_product v (power v k) a before.0 h (IsPolynomial_power v k) lead before.2)
+      (times a before.0, weighted_degree-times ws a before.0 ∙ omega arith, IsLead_product v (polynomial_power v k) a before.0 h (IsPolynomial_power v k) lead before.2)
 
 -- polynomials in n variables modulo p, by degree
 abbrev by_degree : (n : ℕ) (ws : List ℕ) (p : ℕ) → Setting n
@@ -204,7 +204,7 @@ Occurs_within {n} {p} {d} {ws} v m h o = by (cases_lt d (weighted_degree ws m))
 
 -- the monomials of two powers fit
 abbrev pub BothFit : {n : ℕ} → List ℕ → ℕ → FormalSum n → ℕ → ℕ → Type 0
-BothFit {n} ws p v i j = (a b : Exponents n) → OccursInPolynomial p (power v i) a → OccursInPolynomial p (power v j) b → weighted_degree ws a + weighted_degree ws b ≤ 65535
+BothFit {n} ws p v i j = (a b : Exponents n) → OccursInPolynomial p (polynomial_power v i) a → OccursInPolynomial p (polynomial_power v j) b → weighted_degree ws a + weighted_degree ws b ≤ 65535
 
 -- where those of two powers fit, those of all whose exponents sum to no more do
 pub PowersFit_of :
@@ -214,8 +214,8 @@ PowersFit_of {n} {p} ws domain v i j k h e fits = by (has_lead (by_degree n ws p
   where
     within : (d : ℕ) → HasDegreeWithin ws p d v → k * d ≤ 65535 → PowersFit ws p v k
     within d bound small s t a b le oa ob =
-        let left : weighted_degree ws a ≤ s * d = Occurs_within (power v s) a (HasDegreeWithin_power v s bound) oa in
-        let right : weighted_degree ws b ≤ t * d = Occurs_within (power v t) b (HasDegreeWithin_power v t bound) ob in
+        let left : weighted_degree ws a ≤ s * d = Occurs_within (polynomial_power v s) a (HasDegreeWithin_power v s bound) oa in
+        let right : weighted_degree ws b ≤ t * d = Occurs_within (polynomial_power v t) b (HasDegreeWithin_power v t bound) ob in
         let most : (s + t) * d ≤ k * d = mul-le-mul_right d le in
         omega arith
 

@@ -7,14 +7,14 @@ use Rattle.term_lists.specs.Vectors.{HasPositions, IsVector, sum_of}
 use Rattle.term_lists.specs.declared.key.Key.{Key as CodeKey}
 use Rattle.term_lists.specs.declared.ring.Ring.{Ring}
 use Rattle.term_lists.specs.declared.stop.VectStop.{VectStop}
-use Rattle.sparse_poly.specs.Powers.{power}
+use Rattle.sparse_poly.specs.Powers.{polynomial_power}
 use Rattle.sparse_poly.specs.Stops.{PowerStops, PowersFit}
 
 -- v is the power k of a polynomial
 pub record IsPower {n : ℕ} (ws : List ℕ) (p : ℕ) (compare : Key n → Key n → Ordering) (base : FormalSum n) (k : ℕ) (v : List (CodeKey × ℕ)) : Type 0 where
   pub vector : IsVector n ws p compare v
   pub positions : HasPositions 1 v
-  pub same : IsSame p (sum_of n v) (power base k)
+  pub same : IsSame p (sum_of n v) (polynomial_power base k)
 
 -- v is the power k of base over the ring, and the powers up to it fit
 pub record IsPowerOver (ring : Ring) (compare : (n : ℕ) → Key n → Key n → Ordering) (base : List (CodeKey × ℕ)) (k : ℕ) (v : List (CodeKey × ℕ)) : Type 0 where

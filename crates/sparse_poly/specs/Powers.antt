@@ -8,6 +8,6 @@ abbrev pub constant : (n c : ℕ) → FormalSum n
 constant n c = ((0, unit n), c) ∷ []
 
 -- v multiplied k times; with k = 0 the constant 1, also of the polynomial 0
-abbrev pub power : {n : ℕ} → FormalSum n → ℕ → FormalSum n
-power {n} v zero = constant n 1
-power v (suc k) = product v (power v k)
+abbrev pub polynomial_power : {n : ℕ} → FormalSum n → ℕ → FormalSum n
+polynomial_power {n} v zero = constant n 1
+polynomial_power v (suc k) = product v (polynomial_power v k)

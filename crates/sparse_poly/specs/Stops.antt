@@ -9,7 +9,7 @@ use Rattle.term_lists.specs.declared.key.Key.{Key as CodeKey}
 use Rattle.term_lists.specs.declared.stop.VectStop.{VectStop}
 use Rattle.term_lists.specs.declared.stop.VectStop.TheVariants.{Memory, Degree}
 use Rattle.term_lists.specs.Stops.{Fits, HasMonomial, IsTooGreat}
-use Rattle.sparse_poly.specs.Powers.{power}
+use Rattle.sparse_poly.specs.Powers.{polynomial_power}
 
 -- each monomial of a times each of b fits
 abbrev pub ProductFits : List (CodeKey × ℕ) → List (CodeKey × ℕ) → Type 0
@@ -27,12 +27,12 @@ OccursInPolynomial p v m = IsCongruent p (coefficient v (0, m)) 0 → ⊥
 -- each monomial of a power times each of another fits, where the exponents sum to at most k
 abbrev pub PowersFit : {n : ℕ} → List ℕ → ℕ → FormalSum n → ℕ → Type 0
 PowersFit {n} ws p v k =
-    (i j : ℕ) (a b : Exponents n) → i + j ≤ k → OccursInPolynomial p (power v i) a → OccursInPolynomial p (power v j) b
+    (i j : ℕ) (a b : Exponents n) → i + j ≤ k → OccursInPolynomial p (polynomial_power v i) a → OccursInPolynomial p (polynomial_power v j) b
     → weighted_degree ws a + weighted_degree ws b ≤ 65535
 
 -- Degree comes where monomials of two powers, with exponents that sum to at most k, have too great a degree together
 abbrev pub PowerStops : (n : ℕ) → List ℕ → ℕ → FormalSum n → ℕ → VectStop → Type 0
 PowerStops n ws p v k Memory = ⊤
 PowerStops n ws p v k (Degree s t) =
-    (i : ℕ) × (j : ℕ) × (i + j ≤ k) × OccursInPolynomial p (power v i) (exponents_of n s.exponents) × OccursInPolynomial p (power v j) (exponents_of n t.exponents)
+    (i : ℕ) × (j : ℕ) × (i + j ≤ k) × OccursInPolynomial p (polynomial_power v i) (exponents_of n s.exponents) × OccursInPolynomial p (polynomial_power v j) (exponents_of n t.exponents)
     × IsTooGreat s t × IsWeighed n ws s × IsWeighed n ws t

@@ -6,7 +6,7 @@ use Rattle.term_lists.specs.Rings.{variables}
 use Rattle.term_lists.specs.Vectors.{AreTermsOver, IsMonomialOver, IsTerm, StandsFor, key_of, sum_of}
 use Rattle.term_lists.specs.declared.key.Key.{Key as CodeKey}
 use Rattle.term_lists.specs.declared.ring.Ring.{Ring}
-use Rattle.sparse_poly.specs.Powers.{power}
+use Rattle.sparse_poly.specs.Powers.{polynomial_power}
 
 -- the monomial to the power k
 abbrev pub monomial_power : {n : ℕ} → ℕ → Exponents n → Exponents n
@@ -47,4 +47,4 @@ AreTermsWithin ring d terms = Each (IsTermWithin ring d) terms
 -- the terms v, in any order, stand for the power k of the sum of the terms of base
 pub record StandForPower (ring : Ring) (base : List (CodeKey × ℕ)) (k : ℕ) (v : List (CodeKey × ℕ)) : Type 0 where
   pub terms : AreTermsOver ring v
-  pub same : StandsFor ring v (power (sum_of (variables ring) base) k)
+  pub same : StandsFor ring v (polynomial_power (sum_of (variables ring) base) k)

@@ -3,7 +3,7 @@ ghost use Rattle.std.specs.Prelude.{◌≡◌, ◌∷◌, [], ◌+◌, ◌*◌, 
 ghost use Rattle.term_lists.specs.Rings.{variables};
 ghost use Rattle.term_lists.specs.Vectors.{AreTermsOver, StandsFor, sum_of};
 ghost use Rattle.sparse_poly.specs.Binomials.{choose};
-ghost use Rattle.sparse_poly.specs.Powers.{power};
+ghost use Rattle.sparse_poly.specs.Powers.{polynomial_power};
 ghost use Rattle.sparse_poly.specs.TermPowers.{IsTermWithin};
 
 use crate::term_powers::mixed_term;
@@ -54,7 +54,7 @@ pub(crate) fn binomial_terms(
     requires small { n * d ≤ 65535 }
     requires below { n < ring.now.modulus.value }
     ensures terms { IfOk result (λ v. AreTermsOver ring.now v.items) }
-    ensures power { IfOk result (λ v. StandsFor ring.now v.items (power (sum_of (variables ring.now) (a.now ∷ b.now ∷ [])) n)) }
+    ensures power { IfOk result (λ v. StandsFor ring.now v.items (polynomial_power (sum_of (variables ring.now) (a.now ∷ b.now ∷ [])) n)) }
 {
     let modulus = &ring.modulus;
     modulus.domain();
@@ -79,7 +79,7 @@ pub(crate) fn single_terms(
     requires term { IsTermWithin ring.now d a.now }
     requires small { n * d ≤ 65535 }
     ensures terms { IfOk result (λ v. AreTermsOver ring.now v.items) }
-    ensures power { IfOk result (λ v. StandsFor ring.now v.items (power (sum_of (variables ring.now) (a.now ∷ [])) n)) }
+    ensures power { IfOk result (λ v. StandsFor ring.now v.items (polynomial_power (sum_of (variables ring.now) (a.now ∷ [])) n)) }
 {
     ring.modulus.domain();
     let mut terms = Vec::with_capacity(alloc, 1)?;

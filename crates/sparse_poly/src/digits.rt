@@ -4,7 +4,7 @@ ghost use Rattle.term_lists.specs.Rings.{variables};
 ghost use Rattle.term_lists.specs.Vectors.{AreTermsOver, IsVectorOver, HasPositions, StandsFor, sum_of};
 ghost use Rattle.sparse_poly.specs.Degrees.{IsWithinDegree};
 ghost use Rattle.sparse_poly.specs.PowerParts.{IsPowerOver};
-ghost use Rattle.sparse_poly.specs.Powers.{power};
+ghost use Rattle.sparse_poly.specs.Powers.{polynomial_power};
 ghost use Rattle.sparse_poly.specs.TermPowers.{AreTermsWithin, StandForPower};
 
 use crate::binomial::{binomial_terms, single_terms};

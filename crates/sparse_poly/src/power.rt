@@ -4,7 +4,7 @@ ghost use Rattle.term_lists.specs.Rings.{variables};
 ghost use Rattle.term_lists.specs.Vectors.{sum_of, IsVectorOver, StandsFor, HasPositions};
 ghost use Rattle.sparse_poly.specs.Degrees.{IsWithinDegree};
 ghost use Rattle.sparse_poly.specs.PowerParts.{IsPowerOver, PowerStopsOver};
-ghost use Rattle.sparse_poly.specs.Powers.{power};
+ghost use Rattle.sparse_poly.specs.Powers.{polynomial_power};
 ghost use Rattle.sparse_poly.specs.Stops.{PowersFit, PowerStops};
 
 use crate::digits::{by_digits, top_degree};
@@ -21,7 +21,7 @@ pub fn pow<F: Frame>(alloc: Global, frame: &F, p: &Vect, n: u128) -> Result<Vect
     requires polynomial { HasPositions 1 p.now }
     ensures vector { IfOk result (λ v. IsVectorOver (F.over frame.now) (F.compare frame.now) v) }
     ensures polynomial { IfOk result (λ v. HasPositions 1 v) }
-    ensures power { IfOk result (λ v. StandsFor (F.over frame.now) v (power (sum_of (variables (F.over frame.now)) p.now) n)) }
+    ensures power { IfOk result (λ v. StandsFor (F.over frame.now) v (polynomial_power (sum_of (variables (F.over frame.now)) p.now) n)) }
     ensures fits { OnOk result (PowersFit (F.over frame.now).weights (F.over frame.now).modulus.value (sum_of (variables (F.over frame.now)) p.now) n) }
     ensures stop { let m = variables (F.over frame.now) in
         IfErr result (PowerStops m (F.over frame.now).weights (F.over frame.now).modulus.value (sum_of m p.now) n) }
@@ -49,7 +49,7 @@ pub(crate) fn raised<F: Frame>(
     requires polynomial { HasPositions 1 p.now }
     ensures vector { IfOk result (λ v. IsVectorOver (F.over frame.now) (F.compare frame.now) v) }
     ensures polynomial { IfOk result (λ v. HasPositions 1 v) }
-    ensures power { IfOk result (λ v. StandsFor (F.over frame.now) v (power (sum_of (variables (F.over frame.now)) p.now) n)) }
+    ensures power { IfOk result (λ v. StandsFor (F.over frame.now) v (polynomial_power (sum_of (variables (F.over frame.now)) p.now) n)) }
     ensures fits { OnOk result (PowersFit (F.over frame.now).weights (F.over frame.now).modulus.value (sum_of (variables (F.over frame.now)) p.now) n) }
     ensures stop { let m = variables (F.over frame.now) in
         IfErr result (PowerStops m (F.over frame.now).weights (F.over frame.now).modulus.value (sum_of m p.now) n) }

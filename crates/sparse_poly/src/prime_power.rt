@@ -3,7 +3,7 @@ ghost use Rattle.std.specs.Prelude.{◌≡◌, ◌*◌, ◌≤◌, IfOk};
 ghost use Rattle.term_lists.specs.Rings.{variables};
 ghost use Rattle.term_lists.specs.Vectors.{AreTermsOver, HasPositions, IsVectorOver, StandsFor, sum_of};
 ghost use Rattle.sparse_poly.specs.Degrees.{IsWithinDegree};
-ghost use Rattle.sparse_poly.specs.Powers.{power};
+ghost use Rattle.sparse_poly.specs.Powers.{polynomial_power};
 ghost use Rattle.sparse_poly.specs.TermPowers.{AreTermsWithin, raised_monomials};
 
 use crate::term_powers::raised_term;
@@ -44,7 +44,8 @@ pub(crate) fn prime_power<F: Frame>(
     requires within { IsWithinDegree d v.now }
     requires small { (F.over frame.now).modulus.value * d ≤ 65535 }
     ensures vector { IfOk result (λ u. IsVectorOver (F.over frame.now) (F.compare frame.now) u) }
-    ensures power { IfOk result (λ u. StandsFor (F.over frame.now) u (power (sum_of (variables (F.over frame.now)) v.now) (F.over frame.now).modulus.value)) }
+    ensures power { IfOk result (λ u. StandsFor (F.over frame.now) u
+        (polynomial_power (sum_of (variables (F.over frame.now)) v.now) (F.over frame.now).modulus.value)) }
 {
     let ring = frame.ring();
     ring.modulus.domain();

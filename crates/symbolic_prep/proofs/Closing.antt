@@ -11,12 +11,12 @@ use Rattle.monomial_orders.specs.Kept.{IsWeighed, Monomial}
 use Rattle.term_lists.proofs.Scaling.{Each_at}
 use Rattle.term_lists.specs.Vectors.{key_of, sums_of}
 use Rattle.term_lists.specs.declared.key.Key.{Key as CodeKey}
-use Rattle.module_vectors.specs.Trails.{KeptProduct, lead_at, no_product, product_lead, kept_at}
+use Rattle.module_vectors.specs.Trails.{KeptProduct, lead_at, no_product, kept_product_lead, kept_at}
 use Rattle.row_matrix.proofs.KeyPlaces.{key_exact}
 use Rattle.row_matrix.specs.Hashes.{AreDistinctKeys, no_key}
-use Rattle.row_matrix.specs.Rows.{AreKeys, RowShown, column_key, first_column}
+use Rattle.row_matrix.specs.Rows.{AreKeys, RowShown, column_key, first_column, no_row, shown_row_at}
 use Rattle.symbolic_prep.proofs.Planning.{entries_some, lead_known}
-use Rattle.symbolic_prep.specs.Plans.{AreClosed, HasPairProducts, IsLaterPlan, IsMorePlanned, IsMemberPair, IsPlan, IsPlannedRow, IsTopProduct, no_row, row_at}
+use Rattle.symbolic_prep.specs.Plans.{AreClosed, HasPairProducts, IsLaterPlan, IsMorePlanned, IsMemberPair, IsPlan, IsPlannedRow, IsTopProduct}
 use Rattle.vector_division.specs.Divisions.{IsUncovered}
 use Rattle.vector_division.specs.Progress.{IsDivisor}
 
@@ -45,15 +45,15 @@ key_stays n keys added c lt = ap (key_of n) (get_or_append_left keys added no_ke
 pub lead_is :
     (n : ℕ) (ws : List ℕ) (list : List (List (CodeKey × ℕ))) (old new : List CodeKey) (rows rows' : List RowShown) (products products' : List KeptProduct) (led led' : List Bool) (s : KeptProduct) (cursor : ℕ)
     → (h : IsMorePlanned n ws list old new rows rows' products products' led led' s) → AreDistinctKeys new → cursor < length old
-    → product_lead n list s ≡ column_key n old cursor → first_column h.rows_more.0.entries ≡ cursor
+    → kept_product_lead n list s ≡ column_key n old cursor → first_column h.rows_more.0.entries ≡ cursor
 lead_is n ws list old new rows rows' products products' led led' s cursor h apart lt e =
     let r = h.rows_more.0 in
     let i = length rows in
     let size : length rows' ≡ length rows + 1 = ap length h.rows_more.1 ∙ length_push rows r in
-    let at : row_at rows' i ≡ r = ap (λ xs. get_or xs i no_row) h.rows_more.1 ∙ get_or_push rows r no_row i refl in
-    let row : IsPlannedRow n ws list new i (row_at rows' i) (kept_at products' i) = h.plan.each i (omega arith) in
-    let some = entries_some n list new (row_at rows' i).entries (kept_at products' i) row.named row.product.some in
-    let first : first_column r.entries < length new = subst (λ (x : RowShown). first_column x.entries < length new) at (lead_known (length new) (row_at rows' i).entries some row.named.known) in
+    let at : shown_row_at rows' i ≡ r = ap (λ xs. get_or xs i no_row) h.rows_more.1 ∙ get_or_push rows r no_row i refl in
+    let row : IsPlannedRow n ws list new i (shown_row_at rows' i) (kept_at products' i) = h.plan.each i (omega arith) in
+    let some = entries_some n list new (shown_row_at rows' i).entries (kept_at products' i) row.named row.product.some in
+    let first : first_column r.entries < length new = subst (λ (x : RowShown). first_column x.entries < length new) at (lead_known (length new) (shown_row_at rows' i).entries some row.named.known) in
     let grown : length new ≡ length old + length h.added = ap length h.grown ∙ length-append old h.added in
     let stays : column_key n new cursor ≡ column_key n old cursor = ap (λ ks. column_key n ks cursor) h.grown ∙ key_stays n old h.added cursor lt in
     one_number n ws new (first_column r.entries) cursor apart h.plan.monomials first (omega arith) (h.rows_more.2 ∙ e ∙ sym stays)
@@ -62,7 +62,7 @@ lead_is n ws list old new rows rows' products products' led led' s cursor h apar
 pub lead_marked :
     (n : ℕ) (ws : List ℕ) (list : List (List (CodeKey × ℕ))) (old new : List CodeKey) (rows rows' : List RowShown) (products products' : List KeptProduct) (led led' : List Bool) (s : KeptProduct) (cursor : ℕ)
     → IsMorePlanned n ws list old new rows rows' products products' led led' s → AreDistinctKeys new → cursor < length old
-    → product_lead n list s ≡ column_key n old cursor → get_or led' cursor false ≡ true
+    → kept_product_lead n list s ≡ column_key n old cursor → get_or led' cursor false ≡ true
 lead_marked n ws list old new rows rows' products products' led led' s cursor h apart lt e =
     subst (λ c. get_or led' c false ≡ true) (lead_is n ws list old new rows rows' products products' led led' s cursor h apart lt e) h.rows_more.3
 

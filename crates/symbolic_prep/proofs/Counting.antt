@@ -6,9 +6,10 @@ use Rattle.formal_sums.proofs.WeightedSums.{Each_append}
 use Rattle.formal_sums.specs.FormalSums.{Each}
 use Rattle.term_lists.proofs.Parts.{Each_member}
 use Rattle.term_lists.specs.declared.key.Key.{Key as CodeKey}
+use Rattle.term_lists.specs.declared.key.Key.{Key as CodeKey}
 use Rattle.module_vectors.specs.Trails.{KeptProduct}
-use Rattle.row_matrix.specs.Rows.{RowShown, first_column}
-use Rattle.symbolic_prep.specs.Plans.{IsPlan, lead_number, no_row}
+use Rattle.row_matrix.specs.Rows.{RowShown, first_column, no_row}
+use Rattle.symbolic_prep.specs.Plans.{IsPlan, lead_number}
 use Rattle.symbolic_prep.specs.Counts.{IsSparse}
 
 -- ---- one more row, with a lead that no row has

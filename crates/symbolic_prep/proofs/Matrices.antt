@@ -22,11 +22,12 @@ use Rattle.vector_division.proofs.Occurring.{occurs}
 use Rattle.row_matrix.specs.Hashes.{AreDistinctKeys}
 use Rattle.row_matrix.specs.Naming.{IsNumbering}
 use Rattle.row_matrix.specs.Placed.{IsPlacedMatrix, placed_entries, placed_row}
-use Rattle.row_matrix.specs.Rows.{AreEntries, Descend, Entry, IsRow, MatrixShown, RowShown, column_key, first_residue, row_sum, vector_of, vectors_of}
+use Rattle.row_matrix.specs.Rows.{AreEntries, Descend, Entry, IsRow, MatrixShown, RowShown}
+use Rattle.row_matrix.specs.Rows.{column_key, first_residue, no_row, row_sum, shown_row_at, vector_of, vectors_of}
 use Rattle.symbolic_prep.proofs.Closing.{one_number}
 use Rattle.symbolic_prep.proofs.Planning.{entries_some, head_of, head_product, lead_known}
 use Rattle.symbolic_prep.specs.Counts.{HasFewRows, IsSparse}
-use Rattle.symbolic_prep.specs.Plans.{AreClosed, HasPairProducts, IsMemberPair, IsPlan, IsTopProduct, lead_number, no_row, product_sum, row_at}
+use Rattle.symbolic_prep.specs.Plans.{AreClosed, HasPairProducts, IsMemberPair, IsPlan, IsTopProduct, lead_number, product_sum}
 use Rattle.pair_criteria.specs.Traces.{AreTraced}
 use Rattle.symbolic_prep.specs.Prepared.{IsMonicVector, IsPrepared}
 
@@ -123,13 +124,13 @@ module _ (n : ℕ) (ws : List ℕ) (p : ℕ) (one : 1 < p) (compare : Key n → 
   size : length m.rows ≡ length rows
   size = ap length placed.placed ∙ length-map rows (λ (r : RowShown). placed_row placed.places r)
 
-  row_is : (i : ℕ) → i < length rows → row_at m.rows i ≡ placed_row placed.places (row_at rows i)
+  row_is : (i : ℕ) → i < length rows → shown_row_at m.rows i ≡ placed_row placed.places (shown_row_at rows i)
   row_is i lt = ap (λ xs. get_or xs i no_row) placed.placed ∙ get_or-map (λ (r : RowShown). placed_row placed.places r) rows i no_row no_row lt
 
-  sum_is : (i : ℕ) → i < length rows → vector_of n m.columns (row_at m.rows i) ≡ product_sum n list (kept_at made i)
+  sum_is : (i : ℕ) → i < length rows → vector_of n m.columns (shown_row_at m.rows i) ≡ product_sum n list (kept_at made i)
   sum_is i lt =
       let h = plan.each i lt in
-      ap (vector_of n m.columns) (row_is i lt) ∙ placed_sum n ws compare keys m.columns placed.places (row_at rows i).entries placed.numbering h.named.known ∙ h.named.sum
+      ap (vector_of n m.columns) (row_is i lt) ∙ placed_sum n ws compare keys m.columns placed.places (shown_row_at rows i).entries placed.numbering h.named.known ∙ h.named.sum
 
   at_is : (i : ℕ) → i < length m.rows → get_or (vectors_of n m.columns m.rows) i [] ≡ product_sum n list (kept_at made i)
   at_is i lt = get_or-map (λ (r : RowShown). vector_of n m.columns r) m.rows i no_row [] lt ∙ sum_is i (omega (arith, size))
@@ -146,13 +147,13 @@ module _ (n : ℕ) (ws : List ℕ) (p : ℕ) (one : 1 < p) (compare : Key n → 
   member_at : (i : ℕ) → i < length list → IsVector n ws p compare (get_or list i []) × IsMonicVector n (get_or list i [])
   member_at i lt = (Each_at (IsVector n ws p compare) list i (get_or list i []) vectors lt (get_or_default list i [] (get_or list i []) lt), Each_at (IsMonicVector n) list i (get_or list i []) monic lt (get_or_default list i [] (get_or list i []) lt))
 
-  good : (i : ℕ) → i < length m.rows → IsRow p (length m.columns) m.inputs (row_at m.rows i)
+  good : (i : ℕ) → i < length m.rows → IsRow p (length m.columns) m.inputs (shown_row_at m.rows i)
   good i lt =
       let l : i < length rows = omega (arith, size) in
       let h = plan.each i l in
       let s = kept_at made i in
       let g = member_at s.0 h.product.member in
-      let es = (row_at rows i).entries in
+      let es = (shown_row_at rows i).entries in
       let sum : row_sum (column_key n m.columns) (placed_entries placed.places es) ≡ product_sum n list s = placed_sum n ws compare keys m.columns placed.places es placed.numbering h.named.known ∙ h.named.sum in
       subst (IsRow p (length m.columns) m.inputs) (sym (row_is i l)) (record {
         entries = entries_of_sum n p 0 compare order m.columns placed.numbering.descend (placed_entries placed.places es) (product_sum n list s)
@@ -167,7 +168,7 @@ module _ (n : ℕ) (ws : List ℕ) (p : ℕ) (one : 1 < p) (compare : Key n → 
   lead_of i lt =
       let l : i < length rows = omega (arith, size) in
       let h = plan.each i l in
-      ap head_key (at_is i lt) ∙ ap head_key (sym h.named.sum) ∙ head_of (column_key n keys) (row_at rows i).entries (entries_some n list keys (row_at rows i).entries (kept_at made i) h.named h.product.some)
+      ap head_key (at_is i lt) ∙ ap head_key (sym h.named.sum) ∙ head_of (column_key n keys) (shown_row_at rows i).entries (entries_some n list keys (shown_row_at rows i).entries (kept_at made i) h.named h.product.some)
 
   products : AreProductRows p (sums_of n list) (vectors_of n m.columns m.rows)
   products i lt =
@@ -210,8 +211,8 @@ module _ (n : ℕ) (ws : List ℕ) (p : ℕ) (one : 1 < p) (compare : Key n → 
     | inl has ↦
         let l : i < length rows = omega (arith, size, M_size) in
         let h = plan.each i l in
-        let there : HasKey (row_sum (column_key n keys) (row_at rows i).entries) k = subst (λ v. HasKey v k) (at_is i (omega (arith, M_size)) ∙ sym h.named.sum) has in
-        let c = entry_of_key (column_key n keys) (length keys) (row_at rows i).entries k h.named.known there in
+        let there : HasKey (row_sum (column_key n keys) (shown_row_at rows i).entries) k = subst (λ v. HasKey v k) (at_is i (omega (arith, M_size)) ∙ sym h.named.sum) has in
+        let c = entry_of_key (column_key n keys) (length keys) (shown_row_at rows i).entries k h.named.known there in
         elim (closed c.0 c.1 c.1) [
           | inl marked ↦
               let r = plan.marked c.0 marked in
@@ -252,7 +253,7 @@ module _ (n : ℕ) (ws : List ℕ) (p : ℕ) (one : 1 < p) (compare : Key n → 
       lead_below : (i : ℕ) → i < length rows → lead_number rows i < length keys
       lead_below i l =
           let o = plan.each i l in
-          lead_known (length keys) (row_at rows i).entries (entries_some n list keys (row_at rows i).entries (kept_at made i) o.named o.product.some) o.named.known
+          lead_known (length keys) (shown_row_at rows i).entries (entries_some n list keys (shown_row_at rows i).entries (kept_at made i) o.named o.product.some) o.named.known
 
   pub prepared :
       AreTraced n list pairs made → AreDistinctKeys keys

@@ -5,7 +5,7 @@ use Rattle.std.proofs.lemmas.List.{get_or_append_left, get_or_push, length_push}
 use Rattle.monomials.specs.Exponents.{Exponents, exponents_of}
 use Rattle.formal_sums.specs.FormalSums.{Each, Key, scale, shift}
 use Rattle.bases.specs.Leads.{head_key}
-use Rattle.module_vectors.specs.Trails.{KeptProduct, no_product, product_lead, kept_at}
+use Rattle.module_vectors.specs.Trails.{KeptProduct, no_product, kept_product_lead, kept_at}
 use Rattle.formal_sums.proofs.Combining.{Each_map}
 use Rattle.monomial_orders.proofs.Over.{weighed_at}
 use Rattle.monomial_orders.specs.Kept.{IsWeighed, Monomial}
@@ -15,15 +15,15 @@ use Rattle.vector_division.specs.Progress.{AreWeighed}
 use Rattle.term_lists.specs.declared.key.Key.{Key as CodeKey}
 use Rattle.row_matrix.proofs.Names.{named_more}
 use Rattle.row_matrix.specs.Naming.{AreNamed, IsGrown, NamesNumber}
-use Rattle.row_matrix.specs.Rows.{AreKeys, Entry, RowShown, column_key, first_column, row_sum}
-use Rattle.symbolic_prep.specs.Plans.{IsMorePlanned, IsPlan, IsPlannedRow, IsMemberProduct, lead_number, no_row, product_sum, row_at}
+use Rattle.row_matrix.specs.Rows.{AreKeys, Entry, RowShown, column_key, first_column, no_row, row_sum, shown_row_at}
+use Rattle.symbolic_prep.specs.Plans.{IsMorePlanned, IsPlan, IsPlannedRow, IsMemberProduct, lead_number, product_sum}
 
 -- the first key of what entries stand for
 pub head_of : {n : ℕ} (key : ℕ → Key n) (es : List Entry) → 0 < length es → head_key (row_sum key es) ≡ key (first_column es)
 head_of key [] lt = absurd (omega arith)
 head_of key (e ∷ es) lt = refl
 
-pub head_product : (n : ℕ) (list : List (List (CodeKey × ℕ))) (s : KeptProduct) → 0 < length (get_or list s.0 []) → head_key (product_sum n list s) ≡ product_lead n list s
+pub head_product : (n : ℕ) (list : List (List (CodeKey × ℕ))) (s : KeptProduct) → 0 < length (get_or list s.0 []) → head_key (product_sum n list s) ≡ kept_product_lead n list s
 head_product n list s lt = go (get_or list s.0 []) lt
   where
     go : (v : List (CodeKey × ℕ)) → 0 < length v → head_key (scale 1 (exponents_of n s.1.exponents) (sum_of n v)) ≡ shift (exponents_of n s.1.exponents) (head_key (sum_of n v))
@@ -54,16 +54,16 @@ module _ (n : ℕ) (ws : List ℕ) (list : List (List (CodeKey × ℕ))) (old ne
     (monomials : AreKeys n ws new) (re : r.entries ≡ es) (rs : r.sources ≡ (length rows, 1) ∷ []) (rows_more : rows' ≡ rows ++ r ∷ []) (products_more : products' ≡ products ++ s ∷ [])
     (lead : get_or led' (first_column es) false ≡ true) (kept : (c : ℕ) → get_or led c false ≡ true → get_or led' c false ≡ true)
     (only : (c : ℕ) → get_or led' c false ≡ true → (get_or led c false ≡ true) ⊎ (c ≡ first_column es)) where
-  old_row : (i : ℕ) → i < length rows → row_at rows' i ≡ row_at rows i
+  old_row : (i : ℕ) → i < length rows → shown_row_at rows' i ≡ shown_row_at rows i
   old_row i lt = ap (λ xs. get_or xs i no_row) rows_more ∙ get_or_append_left rows (r ∷ []) no_row i lt
 
-  last_row : (i : ℕ) → i ≡ length rows → row_at rows' i ≡ r
+  last_row : (i : ℕ) → i ≡ length rows → shown_row_at rows' i ≡ r
   last_row i e = ap (λ xs. get_or xs i no_row) rows_more ∙ get_or_push rows r no_row i (sym e)
 
   size : length rows' ≡ length rows + 1
   size = ap length rows_more ∙ length_push rows r
 
-  each : (i : ℕ) → i < length rows' → IsPlannedRow n ws list new i (row_at rows' i) (kept_at products' i)
+  each : (i : ℕ) → i < length rows' → IsPlannedRow n ws list new i (shown_row_at rows' i) (kept_at products' i)
   each i lt = elim (cases_eq i (length rows)) [
     | inl e ↦
         let at : kept_at products' i ≡ s = ap (λ xs. get_or xs i no_product) products_more ∙ get_or_push products s no_product i (sym (e ∙ h.count)) in
@@ -78,12 +78,12 @@ module _ (n : ℕ) (ws : List ℕ) (list : List (List (CodeKey × ℕ))) (old ne
         let at : kept_at products' i ≡ kept_at products i = ap (λ xs. get_or xs i no_product) products_more ∙ get_or_append_left products (s ∷ []) no_product i (omega (arith, h.count)) in
         subst₂ (IsPlannedRow n ws list new i) (sym (old_row i l)) (sym at) (record {
           product = o.product;
-          named = subst (λ ks. AreNamed n ks (row_at rows i).entries (product_sum n list (kept_at products i))) (sym grown.grown) (named_more n old grown.added (row_at rows i).entries (product_sum n list (kept_at products i)) o.named);
+          named = subst (λ ks. AreNamed n ks (shown_row_at rows i).entries (product_sum n list (kept_at products i))) (sym grown.grown) (named_more n old grown.added (shown_row_at rows i).entries (product_sum n list (kept_at products i)) o.named);
           sources = o.sources;
         })
   ]
 
-  met : (c : ℕ) → c < length new → (i : ℕ) × (i < length rows') × NamesNumber (row_at rows' i).entries c
+  met : (c : ℕ) → c < length new → (i : ℕ) × (i < length rows') × NamesNumber (shown_row_at rows' i).entries c
   met c lt = elim (cases_lt c (length old)) [
     | inl l ↦ (
         let o = h.met c l in

@@ -13,12 +13,12 @@ use Rattle.term_lists.proofs.Parts.{Each_member}
 use Rattle.term_lists.specs.Stops.{HasMonomial, IsTooGreat}
 use Rattle.term_lists.specs.Vectors.{key_of, sum_of}
 use Rattle.term_lists.specs.declared.key.Key.{Key as CodeKey}
-use Rattle.module_vectors.specs.Trails.{HasKey, IsInProduct, IsKeptProduct, KeptProduct, lead_at, no_product, product_lead, kept_at}
+use Rattle.module_vectors.specs.Trails.{HasKey, IsInProduct, IsKeptProduct, KeptProduct, lead_at, no_product, kept_product_lead, kept_at}
 use Rattle.pair_criteria.specs.declared.pair.Pair.{Pair as CodePair}
 use Rattle.vector_division.specs.Progress.{AreWeighed, IsDivisor}
 use Rattle.row_matrix.specs.Naming.{NamesNumber}
-use Rattle.row_matrix.specs.Rows.{Entry, RowShown, column_key, row_sum}
-use Rattle.symbolic_prep.specs.Plans.{IsMemberPair, IsPlan, IsMemberProduct, row_at}
+use Rattle.row_matrix.specs.Rows.{Entry, RowShown, column_key, row_sum, shown_row_at}
+use Rattle.symbolic_prep.specs.Plans.{IsMemberPair, IsPlan, IsMemberProduct}
 use Rattle.pair_criteria.specs.Traces.{AreTraced}
 use Rattle.symbolic_prep.specs.Traces.{IsGreatEnd, IsOfEarlier, IsOfPair, PlanStops, ProductEnds}
 use Rattle.symbolic_prep.specs.declared.stop.PlanStop.{PlanStop}
@@ -33,13 +33,13 @@ pub traced_at :
     (n : ℕ) (list : List (List (CodeKey × ℕ))) (pairs : List CodePair) (products : List KeptProduct)
     → AreTraced n list pairs products → (i : ℕ) → i < length products → IsOfPair n list pairs (kept_at products i) ⊎ IsOfEarlier n list products i (kept_at products i)
 traced_at n list pairs products h i lt =
-    turn_at (λ (k : Key n). (x : CodePair) × IsLcmOf n pairs k x) (IsInProduct n list) (product_lead n list) no_product products h i lt
+    turn_at (λ (k : Key n). (x : CodePair) × IsLcmOf n pairs k x) (IsInProduct n list) (kept_product_lead n list) no_product products h i lt
 
 traced_from :
     (n : ℕ) (list : List (List (CodeKey × ℕ))) (pairs : List CodePair) (products : List KeptProduct)
     → ((i : ℕ) → i < length products → IsOfPair n list pairs (kept_at products i) ⊎ IsOfEarlier n list products i (kept_at products i)) → AreTraced n list pairs products
 traced_from n list pairs products h =
-    turn_from (λ (k : Key n). (x : CodePair) × IsLcmOf n pairs k x) (IsInProduct n list) (product_lead n list) no_product products h
+    turn_from (λ (k : Key n). (x : CodePair) × IsLcmOf n pairs k x) (IsInProduct n list) (kept_product_lead n list) no_product products h
 
 -- ---- one more product
 module _ (n : ℕ) (list : List (List (CodeKey × ℕ))) (pairs : List CodePair) (products products' : List KeptProduct) (s : KeptProduct) (more : products' ≡ products ++ s ∷ []) where
@@ -57,8 +57,8 @@ module _ (n : ℕ) (list : List (List (CodeKey × ℕ))) (pairs : List CodePair)
   earlier i x y le e h = (
     h.0,
     h.1,
-    subst (λ z. IsInProduct n list (product_lead n list z) (kept_at products' h.0)) (sym e)
-        (subst (IsInProduct n list (product_lead n list x)) (sym (old_step h.0 (omega (arith, h.1)))) h.2),
+    subst (λ z. IsInProduct n list (kept_product_lead n list z) (kept_at products' h.0)) (sym e)
+        (subst (IsInProduct n list (kept_product_lead n list x)) (sym (old_step h.0 (omega (arith, h.1)))) h.2),
   )
 
   moved :
@@ -136,12 +136,12 @@ scaled_key m (t ∷ v) k (suc i, lt, e) =
 pub of_earlier :
     (n : ℕ) (ws : List ℕ) (list : List Terms) (keys : List CodeKey) (rows : List RowShown) (products : List KeptProduct) (led : List Bool)
     (s : KeptProduct) (cursor : ℕ)
-    → IsPlan n ws list keys rows products led → cursor < length keys → product_lead n list s ≡ column_key n keys cursor
+    → IsPlan n ws list keys rows products led → cursor < length keys → kept_product_lead n list s ≡ column_key n keys cursor
     → IsOfEarlier n list products (length products) s
 of_earlier n ws list keys rows products led s cursor h lt e =
     let m = h.met cursor lt in
     let o = h.each m.0 m.1 in
-    let there : HasKey (row_sum (column_key n keys) (row_at rows m.0).entries) (column_key n keys cursor) = named_key (column_key n keys) (row_at rows m.0).entries cursor m.2 in
+    let there : HasKey (row_sum (column_key n keys) (shown_row_at rows m.0).entries) (column_key n keys cursor) = named_key (column_key n keys) (shown_row_at rows m.0).entries cursor m.2 in
     let x = kept_at products m.0 in
     let r = scaled_key (exponents_of n x.1.exponents) (sum_of n (get_or list x.0 [])) (column_key n keys cursor) (subst (λ v. HasKey v (column_key n keys cursor)) o.named.sum there) in
     (m.0, omega (arith, m.1, h.count), (r.0, r.1, e ∙ r.2))

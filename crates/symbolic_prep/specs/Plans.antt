@@ -2,7 +2,7 @@
 use Rattle.std.specs.Prelude.{Bool, List, [], false, get_or, length, true, ℕ, ◌++◌, ◌<◌, ◌∷◌, ◌≡◌, ◌⊎◌}
 use Rattle.monomials.specs.Exponents.{exponents_of, quotient}
 use Rattle.formal_sums.specs.FormalSums.{FormalSum, scale}
-use Rattle.module_vectors.specs.Trails.{KeptProduct, lead_at, product_lead, kept_at}
+use Rattle.module_vectors.specs.Trails.{KeptProduct, lead_at, kept_product_lead, kept_at}
 use Rattle.monomial_orders.specs.Kept.{IsWeighed}
 use Rattle.term_lists.specs.Vectors.{key_of, sum_of, sums_of}
 use Rattle.bases.specs.Representations.{key_lcm}
@@ -10,19 +10,11 @@ use Rattle.pair_criteria.specs.declared.pair.Pair.{Pair as CodePair}
 use Rattle.vector_division.specs.Divisions.{IsUncovered}
 use Rattle.term_lists.specs.declared.key.Key.{Key as CodeKey}
 use Rattle.row_matrix.specs.Naming.{AreNamed, NamesNumber}
-use Rattle.row_matrix.specs.Rows.{AreKeys, RowShown, column_key, first_column}
+use Rattle.row_matrix.specs.Rows.{AreKeys, RowShown, column_key, first_column, shown_row_at}
 
--- a row without entries
-abbrev pub no_row : RowShown
-no_row = record { entries = []; sources = [] }
-
--- the row with this number
-abbrev pub row_at : List RowShown → ℕ → RowShown
-row_at rows i = get_or rows i no_row
-
--- the number of its first key
+-- the number of the first key of the row with this number
 abbrev pub lead_number : List RowShown → ℕ → ℕ
-lead_number rows i = first_column (row_at rows i).entries
+lead_number rows i = first_column (shown_row_at rows i).entries
 
 -- the product of a monomial and a member
 abbrev pub product_sum : (n : ℕ) → List (List (CodeKey × ℕ)) → KeptProduct → FormalSum n
@@ -45,8 +37,8 @@ pub record IsPlan (n : ℕ) (ws : List ℕ) (list : List (List (CodeKey × ℕ))
     (products : List KeptProduct) (led : List Bool) : Type 0 where
   pub count : length rows ≡ length products
   pub monomials : AreKeys n ws keys
-  pub each : (i : ℕ) → i < length rows → IsPlannedRow n ws list keys i (row_at rows i) (kept_at products i)
-  pub met : (c : ℕ) → c < length keys → (i : ℕ) × (i < length rows) × NamesNumber (row_at rows i).entries c
+  pub each : (i : ℕ) → i < length rows → IsPlannedRow n ws list keys i (shown_row_at rows i) (kept_at products i)
+  pub met : (c : ℕ) → c < length keys → (i : ℕ) × (i < length rows) × NamesNumber (shown_row_at rows i).entries c
   pub marked : (c : ℕ) → get_or led c false ≡ true → (i : ℕ) × (i < length rows) × (lead_number rows i ≡ c)
   pub leads : (i : ℕ) → i < length rows → get_or led (lead_number rows i) false ≡ true
 
@@ -58,7 +50,7 @@ pub record IsMorePlanned (n : ℕ) (ws : List ℕ) (list : List (List (CodeKey �
   pub grown : new ≡ old ++ added
   pub products_more : products' ≡ products ++ s ∷ []
   pub rows_more :
-      (r : RowShown) × (rows' ≡ rows ++ r ∷ []) × (column_key n new (first_column r.entries) ≡ product_lead n list s)
+      (r : RowShown) × (rows' ≡ rows ++ r ∷ []) × (column_key n new (first_column r.entries) ≡ kept_product_lead n list s)
       × (get_or led' (first_column r.entries) false ≡ true)
   pub kept : (c : ℕ) → get_or led c false ≡ true → get_or led' c false ≡ true
 

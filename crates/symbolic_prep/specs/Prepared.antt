@@ -8,9 +8,9 @@ use Rattle.term_lists.specs.declared.key.Key.{Key as CodeKey}
 use Rattle.module_vectors.specs.Trails.{KeptProduct, kept_at}
 use Rattle.pair_criteria.specs.declared.pair.Pair.{Pair as CodePair}
 use Rattle.row_laws.specs.Jobs.{AreProductRows, HasPairRows, HasReducers}
-use Rattle.row_matrix.specs.Rows.{IsMatrix, MatrixShown, vectors_of}
+use Rattle.row_matrix.specs.Rows.{IsMatrix, MatrixShown, shown_row_at, vectors_of}
 use Rattle.symbolic_prep.specs.Counts.{HasFewRows}
-use Rattle.symbolic_prep.specs.Plans.{IsMemberProduct, product_sum, row_at}
+use Rattle.symbolic_prep.specs.Plans.{IsMemberProduct, product_sum}
 use Rattle.pair_criteria.specs.Traces.{AreTraced}
 
 -- the vector is not zero, and its first coefficient is 1
@@ -24,7 +24,7 @@ pub record IsPrepared (n : ℕ) (S : Setting n) (list : List (List (CodeKey × �
     (made : List KeptProduct) : Type 0 where
   pub matrix : IsMatrix n S.weights S.modulus S.compare m
   pub inputs : m.inputs ≡ length m.rows
-  pub sources : (i : ℕ) → i < length m.rows → (row_at m.rows i).sources ≡ (i, 1) ∷ []
+  pub sources : (i : ℕ) → i < length m.rows → (shown_row_at m.rows i).sources ≡ (i, 1) ∷ []
   pub each_product : (i : ℕ) → i < length made → IsMemberProduct n S.weights list (kept_at made i)
   pub traced : AreTraced n list pairs made
   pub vectors : vectors_of n m.columns m.rows ≡ map (λ s. product_sum n list s) made

@@ -4,7 +4,7 @@ use Rattle.formal_sums.specs.FormalSums.{Each}
 use Rattle.monomial_orders.specs.Kept.{IsWeighed, Monomial}
 use Rattle.term_lists.specs.Stops.{HasMonomial, IsTooGreat}
 use Rattle.term_lists.specs.declared.key.Key.{Key as CodeKey}
-use Rattle.module_vectors.specs.Trails.{IsInProduct, IsOfProduct, IsKeptProduct, KeptProduct, product_lead, kept_at}
+use Rattle.module_vectors.specs.Trails.{IsInProduct, IsOfProduct, IsKeptProduct, KeptProduct, kept_product_lead, kept_at}
 use Rattle.pair_criteria.specs.Pairs.{IsLcmOf}
 use Rattle.pair_criteria.specs.Traces.{AreTraced}
 use Rattle.pair_criteria.specs.declared.pair.Pair.{Pair as CodePair}
@@ -15,11 +15,11 @@ use Rattle.symbolic_prep.specs.declared.stop.PrepareStop.TheVariants.{Memory as 
 
 -- the lead of the product is the least common multiple of one of the pairs
 abbrev pub IsOfPair : (n : ℕ) → List (List (CodeKey × ℕ)) → List CodePair → KeptProduct → Type 0
-IsOfPair n list pairs s = (x : CodePair) × IsLcmOf n pairs (product_lead n list s) x
+IsOfPair n list pairs s = (x : CodePair) × IsLcmOf n pairs (kept_product_lead n list s) x
 
 -- the lead of the product is a key of one of the first products, so many
 abbrev pub IsOfEarlier : (n : ℕ) → List (List (CodeKey × ℕ)) → List KeptProduct → ℕ → KeptProduct → Type 0
-IsOfEarlier n list products count s = (j : ℕ) × (j < count) × IsInProduct n list (product_lead n list s) (kept_at products j)
+IsOfEarlier n list products count s = (j : ℕ) × (j < count) × IsInProduct n list (kept_product_lead n list s) (kept_at products j)
 
 -- such products, the last of which is too great for this monomial of its vector
 pub record IsGreatEnd (n : ℕ) (ws : List ℕ) (list : List (List (CodeKey × ℕ))) (pairs : List CodePair) (products : List KeptProduct) (last : Monomial) : Type 0 where

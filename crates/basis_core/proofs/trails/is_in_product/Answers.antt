@@ -4,7 +4,7 @@ use Rattle.formal_sums.specs.FormalSums.{shift}
 use Rattle.term_lists.specs.Rings.{variables}
 use Rattle.term_lists.specs.Vectors.{key_of, sum_of}
 use Rattle.term_lists.specs.declared.key.Key.{Key as CodeKey}
-use Rattle.module_vectors.specs.Trails.{HasKey, product_lead}
+use Rattle.module_vectors.specs.Trails.{HasKey, kept_product_lead}
 use Rattle.basis_core.specs.Rows.{vectors_in}
 use Rattle.basis_core.proofs.Chaining.{key_index, key_there, lead_is, none_more, nonzero_at, same_in, variables_at}
 use Rattle.basis_core.proofs.trails.is_in_product.Goals as goal
@@ -34,7 +34,7 @@ returns-then-same_product-clause-met c z =
     let n : ℕ = variables c.args.members.now.shared.ring in
     let vs : List (List (CodeKey × ℕ)) = vectors_in c.args.members.now.list in
     let lead : CodeKey = (get_or c.terms.result.now 0 c.index-terms-0.result).0 in
-    let first : product_lead n vs c.args.of.now ≡ shift (exponents_of n c.args.of.now.1.exponents) (key_of n lead) =
+    let first : kept_product_lead n vs c.args.of.now ≡ shift (exponents_of n c.args.of.now.1.exponents) (key_of n lead) =
     lead_is n vs c.args.of.now c.terms.result.now (get_or c.terms.result.now 0 c.index-terms-0.result) (c.terms.ensures ∙ c.at.ensures)
     (omega (
       arith,
@@ -56,10 +56,10 @@ loop-term-preserved c =
     let n : ℕ = variables c.args.members.now.shared.ring in
     let vs : List (List (CodeKey × ℕ)) = vectors_in c.args.members.now.list in
     let lead : CodeKey = (get_or c.terms.result.now 0 c.index-terms-0.result).0 in
-    let first : product_lead n vs c.args.of.now ≡ shift (exponents_of n c.args.of.now.1.exponents) (key_of n lead) =
+    let first : kept_product_lead n vs c.args.of.now ≡ shift (exponents_of n c.args.of.now.1.exponents) (key_of n lead) =
     lead_is n vs c.args.of.now c.terms.result.now (get_or c.terms.result.now 0 c.index-terms-0.result) (c.terms.ensures ∙ c.at.ensures)
     (omega (arith, ap length (c.terms.ensures ∙ c.at.ensures), nonzero_at c.args.members.now.list c.args.of.now.0 c.requires.nonzero c.requires.of.0)) (ap (λ (z : CodeKey × ℕ). get_or c.terms.result.now 0 z) c.index-terms-0.is) in
-    none_more (λ (t : CodeKey × ℕ). product_lead n vs c.args.of.now ≡ shift (exponents_of n c.args.product.now.1.exponents) (key_of n t.0))
+    none_more (λ (t : CodeKey × ℕ). kept_product_lead n vs c.args.of.now ≡ shift (exponents_of n c.args.product.now.1.exponents) (key_of n t.0))
     c.terms-term-items.result.now c.loop-term.term-index c.term-item.result
     c.loop-term.invariant c.loop-term-test.true c.term-item.is
     (λ e. c.same_product.ensures.apart c.if-same_product.false

@@ -1,7 +1,7 @@
 use Rattle.std.proofs.Common.{List, arith, inl, inr, length, refl, reverse, subst, sym, ℕ, ◌<◌, ◌∷◌, ◌≡◌, ◌⊎◌, ◌-◌}
 use Rattle.term_lists.specs.Rings.{variables}
 use Rattle.term_lists.specs.declared.key.Key.{Key as CodeKey}
-use Rattle.module_vectors.specs.Trails.{IsInProduct, IsKeptProduct, KeptProduct, no_product, product_lead, kept_at}
+use Rattle.module_vectors.specs.Trails.{IsInProduct, IsKeptProduct, KeptProduct, no_product, kept_product_lead, kept_at}
 use Rattle.pair_criteria.specs.declared.pair.Pair.{Pair as CodePair}
 use Rattle.basis_core.specs.Chains.{IsChainTo}
 use Rattle.basis_core.specs.Rows.{vectors_in}
@@ -54,7 +54,7 @@ returns-in-Some c =
           c.loop-pair.invariant.within c.index-all-at.is c.in_ok-push_product.ensures c.loop-pair.invariant.chain;
       pair = c.in-Some.pair.now;
       indices = refl;
-      lcm = subst (λ (s : KeptProduct). IsLcmOf n c.args.pairs.now (product_lead n vs s) c.in-Some.pair.now) there c.in-Some.ensures.some;
+      lcm = subst (λ (s : KeptProduct). IsLcmOf n c.args.pairs.now (kept_product_lead n vs s) c.in-Some.pair.now) there c.in-Some.ensures.some;
     }
 
 pub find_earlier-at-requires-clause-some : goal.find_earlier-at-requires-clause-some
@@ -63,14 +63,14 @@ find_earlier-at-requires-clause-some c =
     let vs : List (List (CodeKey × ℕ)) = vectors_in c.args.members.now.list in
     let there : c.index-all-at.result ≡ kept_at c.args.all.now c.loop-pair.at =
     step_is c.args.all.now c.loop-pair.at c.index-all-at.result c.loop-pair.invariant.within c.index-all-at.is in
-    let go : (((x : CodePair) × IsLcmOf n c.args.pairs.now (product_lead n vs (kept_at c.args.all.now c.loop-pair.at)) x)
-    ⊎ ((j : ℕ) × (j < c.loop-pair.at) × IsInProduct n vs (product_lead n vs (kept_at c.args.all.now c.loop-pair.at)) (kept_at c.args.all.now j)))
-    → (j : ℕ) × (j < c.loop-pair.at) × IsInProduct n vs (product_lead n vs (kept_at c.args.all.now c.loop-pair.at)) (kept_at c.args.all.now j) =
+    let go : (((x : CodePair) × IsLcmOf n c.args.pairs.now (kept_product_lead n vs (kept_at c.args.all.now c.loop-pair.at)) x)
+    ⊎ ((j : ℕ) × (j < c.loop-pair.at) × IsInProduct n vs (kept_product_lead n vs (kept_at c.args.all.now c.loop-pair.at)) (kept_at c.args.all.now j)))
+    → (j : ℕ) × (j < c.loop-pair.at) × IsInProduct n vs (kept_product_lead n vs (kept_at c.args.all.now c.loop-pair.at)) (kept_at c.args.all.now j) =
     λ z. elim z [
-      | inl x ↦ absurd (c.in_default.ensures.none x.0 (subst (λ (s : KeptProduct). IsLcmOf n c.args.pairs.now (product_lead n vs s) x.0) (sym there) x.1))
+      | inl x ↦ absurd (c.in_default.ensures.none x.0 (subst (λ (s : KeptProduct). IsLcmOf n c.args.pairs.now (kept_product_lead n vs s) x.0) (sym there) x.1))
       | inr h ↦ h
     ] in
-    go (turn_at (λ (k : Key n). (x : CodePair) × IsLcmOf n c.args.pairs.now k x) (IsInProduct n vs) (product_lead n vs) no_product c.args.all.now
+    go (turn_at (λ (k : Key n). (x : CodePair) × IsLcmOf n c.args.pairs.now k x) (IsInProduct n vs) (kept_product_lead n vs) no_product c.args.all.now
     c.requires.traced c.loop-pair.at c.loop-pair.invariant.within)
 
 pub loop-pair-preserved : goal.loop-pair-preserved

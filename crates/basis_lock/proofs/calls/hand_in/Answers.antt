@@ -1,7 +1,7 @@
 use Rattle.std.proofs.Common.{List, [], ap, length, refl, subst, sym, ◌++◌, ◌∙◌, ◌∷◌, ℕ}
 use Rattle.basis_steps.specs.Steps as steps
-use Rattle.basis_core.specs.Members.{MemberShown, members_of, rows_of}
-use Rattle.basis_core.specs.Outcomes.{OutcomeShown, products_of}
+use Rattle.basis_core.specs.Members.{MemberShown, members_of, reduct_rows_of}
+use Rattle.basis_core.specs.Outcomes.{OutcomeShown, indexed_products_of}
 use Rattle.basis_core.specs.Shown.{Shown}
 use Rattle.basis_core.specs.Views.{run_of, state_of, variables_of}
 use Rattle.ruled_lock.specs.declared.law.View.{View}
@@ -51,7 +51,7 @@ returns-in-Ok-clause-put g c =
           (c.put_event.ensures.view ∙ ap (λ (u : View Noted Base). freed (added u (log t))) c.take-state.ensures.view)
           c.kept-in-Ok.ensures.replays;
       puts =
-          subst (λ (w : ℕ). steps.Puts (run_of n s) (state_of n s) w (length o.job.members) (rows_of n o.rows) (products_of n o.products) (members_of n made) (state_of n t))
+          subst (λ (w : ℕ). steps.Puts (run_of n s) (state_of n s) w (length o.job.members) (reduct_rows_of n o.rows) (indexed_products_of n o.products) (members_of n made) (state_of n t))
           c.requires.may.worker put.puts;
     }
 

@@ -2,11 +2,10 @@ use Rattle.std.proofs.Common.{[], arith, drop, get_or, length, mod-lt, set, subs
 use Rattle.residues.specs.Residues.{IsCongruent}
 use Rattle.formal_sums.proofs.WeightedSums.{Each_append}
 use Rattle.pivot_table.specs.Law.{told}
-use Rattle.row_matrix.specs.Rows.{Entry}
+use Rattle.row_matrix.specs.Rows.{Entry, shown_row_at}
 use Rattle.dense_reduction.proofs.Clearing.{factor_cancels, none_left, one_left, pivot_added, residue_is, underway_left, underway_none, underway_pivot}
 use Rattle.dense_reduction.proofs.Naming.{follows_same}
 use Rattle.dense_reduction.proofs.Steps.{pivot_entries, reduced_added, reduced_kept}
-use Rattle.dense_reduction.specs.Pivots.{row_at}
 use Rattle.dense_reduction.specs.Reductions.{IsPivotFor}
 use Rattle.dense_reduction.specs.Rests.{rows_left}
 use Rattle.dense_reduction.proofs.reduction.clear_column.Goals as goal
@@ -70,7 +69,7 @@ returns-in_ok-add_pivot-in-Some-clause-underway c =
     let g = pivot_entries p c.args.c count c.args.shared.inputs c.in-Some.pivot c.args.shared.rows.now own (told c.pivot_of.new.seat) c.requires.ready.monic c.requires.own.monic pivot in
     let e = c.add_pivot.ensures in
     rw e.left (underway_pivot p w.limit c.args.c count (length rows) pivots w.left.items w.numbers.items w.taken.items c.requires.underway lt
-    c.in-Some.pivot c.neg.result new.limit (drop 1 (row_at rows c.in-Some.pivot).entries) new.numbers.items new.taken.items
+    c.in-Some.pivot c.neg.result new.limit (drop 1 (shown_row_at rows c.in-Some.pivot).entries) new.numbers.items new.taken.items
     g.tail e.adds pivot.known c.neg.ensures.small c.in_ok-add_pivot-in-Some.ensures.taken e.room e.small)
 
 pub returns-in_ok-add_pivot-in-Some-clause-reduced : goal.returns-in_ok-add_pivot-in-Some-clause-reduced
@@ -91,7 +90,7 @@ returns-in_ok-add_pivot-in-Some-clause-reduced c = λ from row above h.
     let is = residue_is p c.from.result c.args.c c.index.result.now w.numbers.items c.index.ensures lt q in
     let f = c.neg.result in
     let cancels = subst (λ x. IsCongruent p (x + r) 0) (sym c.neg.ensures.value) (factor_cancels p r small) in
-    let P = row_at rows c.in-Some.pivot in
+    let P = shown_row_at rows c.in-Some.pivot in
     reduced_added p from c.args.c c.in-Some.pivot f r c.args.shared.rows.now own (told c.args.seat.now) (told c.pivot_of.new.seat) row w.left.items new.left.items w.numbers.items new.numbers.items w.taken.items new.taken.items
     (omega (arith, one)) c.pivot_of.ensures.follows pivot cancels c.add_pivot.ensures.left c.in_ok-add_pivot-in-Some.ensures.taken
     (λ n key. pivot_added p (omega (arith, one)) key c.args.c r w.numbers.items lt is w.left.items P.entries (drop 1 P.entries) f new.numbers.items g.entries cancels (c.add_pivot.ensures.adds.sum n key)) h

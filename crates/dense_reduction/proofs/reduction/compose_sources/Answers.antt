@@ -2,10 +2,9 @@ use Rattle.std.proofs.Common.{ap, arith, get_or, length, subst, sym, ◌+◌, �
 use Rattle.std.proofs.lemmas.List.{get_or_default, length-append, length-map, length-replicate, take_all}
 use Rattle.formal_sums.specs.FormalSums.{IsSame}
 use Rattle.term_lists.proofs.Scaling.{Each_at}
-use Rattle.row_matrix.specs.Rows.{AreEntries, Entry, RowShown}
+use Rattle.row_matrix.specs.Rows.{AreEntries, Entry, RowShown, no_row, shown_row_at}
 use Rattle.dense_reduction.proofs.Reducing.{dense_start, sources_more, sources_start}
 use Rattle.dense_reduction.specs.Dense.{IsDense, dense_sum}
-use Rattle.dense_reduction.specs.Pivots.{no_row, row_at}
 use Rattle.dense_reduction.specs.Rests.{rows_left}
 use Rattle.dense_reduction.specs.Underway.{sources_sum}
 use Rattle.dense_reduction.specs.declared.lefts.Left.{Left}
@@ -40,7 +39,7 @@ add_sources-limit-requires-in-loop-part-clause-entries c =
     let r = c.row_numbered-added.result.now in
     let q = Each_at (λ (x : Entry). (x.0 < length (c.args.shared.rows.now ++ rows_left c.args.own.now.left.items)) × (x.1 < p)) c.args.taken.now i t c.requires.taken lt (get_or_default c.args.taken.now i (0, 0) t lt) in
     let rows = c.args.shared.rows.now ++ rows_left c.args.own.now.left.items in
-    let at : r ≡ row_at rows t.0 = c.row_numbered-added.ensures ∙ ap (λ left. row_at (c.args.shared.rows.now ++ rows_left left) t.0) c.as_slice.ensures.value in
+    let at : r ≡ shown_row_at rows t.0 = c.row_numbered-added.ensures ∙ ap (λ left. shown_row_at (c.args.shared.rows.now ++ rows_left left) t.0) c.as_slice.ensures.value in
     let good : AreEntries p 0 c.args.shared.inputs r.sources = Each_at (λ (x : RowShown). AreEntries p 0 c.args.shared.inputs x.sources) rows t.0 r c.requires.rows q.0 (at ∙ get_or_default rows t.0 no_row r q.0) in
     subst (λ m. AreEntries p 0 m r.sources) (sym c.loop-part.invariant.count) good
 
@@ -53,7 +52,7 @@ loop-part-preserved c =
     let r = c.row_numbered-added.result.now in
     let a = c.add_sources-limit-in-loop-part in
     let rows = c.args.shared.rows.now ++ rows_left c.args.own.now.left.items in
-    let at : r ≡ row_at rows t.0 = c.row_numbered-added.ensures ∙ ap (λ left. row_at (c.args.shared.rows.now ++ rows_left left) t.0) c.as_slice.ensures.value in
+    let at : r ≡ shown_row_at rows t.0 = c.row_numbered-added.ensures ∙ ap (λ left. shown_row_at (c.args.shared.rows.now ++ rows_left left) t.0) c.as_slice.ensures.value in
     record {
       count = a.ensures.adds.count ∙ c.loop-part.invariant.count;
       room = a.ensures.room;

@@ -3,7 +3,7 @@ use Rattle.std.proofs.lemmas.List.{map-append, take_all}
 use Rattle.term_lists.proofs.Parts.{Each_member}
 use Rattle.row_matrix.specs.Rows.{Entry}
 use Rattle.dense_reduction.proofs.Claimed.{item_taken}
-use Rattle.dense_reduction.specs.Underway.{rescaled}
+use Rattle.dense_reduction.specs.Underway.{entries_rescaled}
 use Rattle.dense_reduction.proofs.reduction.rescaled_entries.Goals as goal
 
 pub mul-requires-clause-right : goal.mul-requires-clause-right
@@ -26,7 +26,7 @@ loop-entry-preserved c =
     let out = c.loop-entry.out.items in
     record {
       items = c.push_reserved.ensures.items ∙ ap (λ x. out ++ (e.0, x) ∷ []) c.mul.ensures.value ∙ ap (λ xs. xs ++ (e.0, (k * e.1) % p) ∷ []) v.items
-          ∙ sym (ap (rescaled p k) (item_taken es i (0, 0) c.loop-entry-test.true) ∙ map-append (λ (x : Entry). (x.0, (k * x.1) % p)) (take i es) (e ∷ []));
+          ∙ sym (ap (entries_rescaled p k) (item_taken es i (0, 0) c.loop-entry-test.true) ∙ map-append (λ (x : Entry). (x.0, (k * x.1) % p)) (take i es) (e ∷ []));
       len = omega (arith, v.len, c.push_reserved.ensures.len);
       room = omega (arith, v.room, c.push_reserved.ensures.capacity);
     }
@@ -34,4 +34,4 @@ loop-entry-preserved c =
 pub returns : goal.returns
 returns c =
     c.loop-entry.invariant.items
-    ∙ ap (rescaled c.args.modulus.now.value c.args.c) (take_all c.loop-entry.entry-index c.args.entries.now c.loop-entry-test.false)
+    ∙ ap (entries_rescaled c.args.modulus.now.value c.args.c) (take_all c.loop-entry.entry-index c.args.entries.now c.loop-entry-test.false)

@@ -1,12 +1,11 @@
 use Rattle.std.proofs.Common.{[], ap, ap₂, arith, drop, get_or, length, subst, sym, ◌+◌, ◌++◌, ◌<◌, ◌∙◌, ◌∷◌, ◌≡◌}
 use Rattle.residues.specs.Residues.{IsCongruent}
-use Rattle.row_matrix.specs.Rows.{first_column}
+use Rattle.row_matrix.specs.Rows.{first_column, shown_row_at}
 use Rattle.dense_reduction.proofs.Clearing.{factor_cancels, pivot_row}
 use Rattle.dense_reduction.proofs.Entries.{monic_entries}
 use Rattle.dense_reduction.proofs.Reducing.{dense_start, first_column_read, idle_zeros, start_underway, stays_underway}
 use Rattle.dense_reduction.proofs.Steps.{first_cleared, first_stays}
 use Rattle.dense_reduction.specs.Dense.{IsDense}
-use Rattle.dense_reduction.specs.Pivots.{row_at}
 use Rattle.dense_reduction.specs.Reductions.{IsPivotFor}
 use Rattle.dense_reduction.specs.Rests.{rows_left}
 use Rattle.dense_reduction.proofs.reduction.start_work.Goals as goal
@@ -64,7 +63,7 @@ returns-in_ok-add_pivot-in-Some-clause-underway c =
     let e = c.add_pivot.ensures in
     let new = c.add_pivot.new.work in
     start_underway p new.limit (first_column es) (length numbers) (length rows) k c.neg.result c.args.own.now.pivots.items
-    (drop 1 es) (drop 1 (row_at rows k).entries) numbers c.add_tail-work.new.numbers.items new.numbers.items new.left.items new.taken.items
+    (drop 1 es) (drop 1 (shown_row_at rows k).entries) numbers c.add_tail-work.new.numbers.items new.numbers.items new.left.items new.taken.items
     m.1 g.tail (idle_zeros (length numbers) numbers c.requires.idle) c.add_tail-work.ensures.adds e.adds is.known c.neg.ensures.small
     (e.left ∙ c.clear.ensures.items) (c.in_ok-add_pivot-in-Some.ensures.taken ∙ ap (λ ts. ts ++ (k, c.neg.result) ∷ []) c.clear-2.ensures.items)
     e.room e.small
@@ -85,7 +84,7 @@ returns-in_ok-add_pivot-in-Some-clause-reduced c = λ told pivot.
     let new = c.add_pivot.new.work in
     rw c.in-Some.is
     (first_cleared p (first_column es) (length numbers) k c.neg.result c.args.shared.rows.now own told c.args.row.now
-    (drop 1 (row_at rows k).entries) numbers c.add_tail-work.new.numbers.items new.numbers.items new.left.items new.taken.items
+    (drop 1 (shown_row_at rows k).entries) numbers c.add_tail-work.new.numbers.items new.numbers.items new.left.items new.taken.items
     (omega (arith, one)) is m.0 g.entries (idle_zeros (length numbers) numbers c.requires.idle) c.add_tail-work.ensures.adds e.adds
     (subst (λ x. IsCongruent p (x + 1) 0) (sym c.neg.ensures.value) (factor_cancels p 1 one))
     (e.left ∙ c.clear.ensures.items) (c.in_ok-add_pivot-in-Some.ensures.taken ∙ ap (λ ts. ts ++ (k, c.neg.result) ∷ []) c.clear-2.ensures.items))

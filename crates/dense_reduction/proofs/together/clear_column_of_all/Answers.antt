@@ -4,9 +4,9 @@ use Rattle.dense_reduction.proofs.Lanes.{all_zero, cleared_added, cleared_out, t
 use Rattle.dense_reduction.proofs.Naming.{follows_same}
 use Rattle.dense_reduction.proofs.OnTheWay.{ways_added, ways_none, ways_pushed}
 use Rattle.dense_reduction.proofs.Steps.{pivot_entries}
-use Rattle.dense_reduction.specs.Pivots.{row_at}
 use Rattle.dense_reduction.specs.Reductions.{IsPivotFor}
 use Rattle.dense_reduction.specs.Rests.{rows_left}
+use Rattle.row_matrix.specs.Rows.{shown_row_at}
 use Rattle.dense_reduction.proofs.together.clear_column_of_all.Goals as goal
 
 pub returns-then-eq-clause-cleared : goal.returns-then-eq-clause-cleared
@@ -89,7 +89,7 @@ returns-in_ok-add_pivot_to_all-in-Some-clause-cleared c =
     let n : t.numbers.len ≡ length r.new.numbers = omega (arith, r.ensures.count, c.as_mut_slice.ensures.len, ap length c.as_mut_slice.ensures.value) in
     let out = taken_out p c.args.c t.numbers.len r.result t.numbers.items c.as_mut_slice.result.now r.new.numbers c.as_mut_slice.ensures.value n
     r.ensures.count r.ensures.residues r.ensures.taken in
-    cleared_added p t.limit new.limit (c.args.c + 1) columns (drop 1 (row_at (c.args.shared.rows.now ++ own) c.in-Some.pivot).entries) r.result a.0 _
+    cleared_added p t.limit new.limit (c.args.c + 1) columns (drop 1 (shown_row_at (c.args.shared.rows.now ++ own) c.in-Some.pivot).entries) r.result a.0 _
     new.numbers.items g.tail e.count e.room e.small a.2
     (cleared_out p t.limit c.args.c columns r.result t.numbers.items _ (omega (arith, one)) c.requires.at out c.requires.cleared)
 

@@ -1,10 +1,9 @@
 use Rattle.std.proofs.Common.{None, [], ap, ap₂, arith, get_or, length, sym, ◌++◌, ◌-◌, ◌<◌, ◌∙◌, ◌∷◌, ◌≡◌}
 use Rattle.std.proofs.lemmas.List.{get_or_default}
 use Rattle.formal_sums.proofs.Combining.{Each_map}
-use Rattle.row_matrix.specs.Rows.{AreEntries, IsRow, RowShown}
+use Rattle.row_matrix.specs.Rows.{AreEntries, IsRow, RowShown, no_row}
 use Rattle.dense_reduction.proofs.Lanes.{negative_one, none_of, sources_good}
 use Rattle.dense_reduction.proofs.OnTheWay.{way_left_over, way_rest}
-use Rattle.dense_reduction.specs.Pivots.{no_row}
 use Rattle.dense_reduction.specs.Rests.{rows_left}
 use Rattle.dense_reduction.specs.Together.{lane_left, lane_taken}
 use Rattle.dense_reduction.proofs.together.rest_of.Goals as goal

@@ -1,5 +1,5 @@
 use Rattle.std.proofs.Common.{ap, ◌∙◌}
-use Rattle.basis_lock.specs.Acts.{has_ended, has_stop}
+use Rattle.basis_lock.specs.Acts.{has_ended_by_acts, has_stop}
 use Rattle.basis_core.specs.Logs.{Base, Noted, base}
 use Rattle.ruled_lock.specs.declared.law.View.{View}
 use Rattle.f4_engine.proofs.Rounds.{hands_it_in, job_trail_seen, known_same, may_hand_in, no_event, same_twice}
@@ -20,7 +20,7 @@ give_up-requires-clause-may g c =
     let same = no_event v w c.in-Err-hand_in.ensures.err in
     record {
       known = known_same (base c.args.lock.now.table.shared.key.value) v w same.0 c.requires.job.known;
-      works = ap has_ended same.1 ∙ c.requires.job.works;
+      works = ap has_ended_by_acts same.1 ∙ c.requires.job.works;
       unstopped = ap has_stop same.1 ∙ c.requires.job.unstopped;
       why = c.in-Err-hand_in.ensures.stop;
     }

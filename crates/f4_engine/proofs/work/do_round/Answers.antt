@@ -1,5 +1,5 @@
 use Rattle.std.proofs.Common.{ap, arith, refl, ◌∙◌}
-use Rattle.basis_lock.specs.Acts.{has_ended, has_stop}
+use Rattle.basis_lock.specs.Acts.{has_ended_by_acts, has_stop}
 use Rattle.basis_core.specs.Logs.{Base, Noted, base}
 use Rattle.basis_core.specs.declared.taken.Taken.TheVariants.{Empty, Stopped}
 use Rattle.ruled_lock.specs.declared.law.View.{View}
@@ -28,7 +28,7 @@ give_up-requires-clause-may g c =
     let same = no_event v w c.in-Err.ensures.err in
     record {
       known = known_same (base c.args.lock.now.table.shared.key.value) v w same.0 c.requires.works.known;
-      works = ap has_ended same.1 ∙ c.requires.works.works;
+      works = ap has_ended_by_acts same.1 ∙ c.requires.works.works;
       unstopped = ap has_stop same.1 ∙ c.requires.works.unstopped;
       why = tt;
     }

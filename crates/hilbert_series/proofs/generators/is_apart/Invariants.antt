@@ -1,6 +1,6 @@
 use Rattle.std.proofs.Common.{length, map, take, ◌≡◌}
 use Rattle.monomials.specs.Exponents.{exponents_of, quotient}
-use Rattle.hilbert_series.specs.Generators.{monomials}
+use Rattle.monomial_orders.specs.Kept.{monomials}
 use Rattle.hilbert_series.proofs.generators.is_apart.Given as goal
 
 abbrev pub invariant-loop-generator : goal.invariant-loop-generator

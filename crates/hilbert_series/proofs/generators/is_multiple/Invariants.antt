@@ -1,7 +1,7 @@
 use Rattle.std.proofs.Common.{false, length, take, ◌≡◌}
 use Rattle.monomial_counts.specs.Counts.{has_divisor}
 use Rattle.monomials.specs.Exponents.{exponents_of}
-use Rattle.hilbert_series.specs.Generators.{monomials}
+use Rattle.monomial_orders.specs.Kept.{monomials}
 use Rattle.hilbert_series.proofs.generators.is_multiple.Given as goal
 
 abbrev pub invariant-loop-generator : goal.invariant-loop-generator

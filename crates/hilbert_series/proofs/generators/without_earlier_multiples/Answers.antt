@@ -1,8 +1,9 @@
 use Rattle.std.proofs.Common.{length, rules, subst, sym, true, ◌≡◌}
 use Rattle.monomials.specs.Exponents.{exponents_of}
 use Rattle.monomial_counts.specs.Counts.{has_divisor}
-use Rattle.hilbert_series.specs.Generators.{AreMonomialGenerators, monomials}
+use Rattle.hilbert_series.specs.Generators.{AreMonomialGenerators}
 use Rattle.hilbert_series.proofs.Loops.{Sifting, last_weighed, sifting_begins, sifting_drops, sifting_ends, sifting_keeps}
+use Rattle.monomial_orders.specs.Kept.{monomials}
 use Rattle.hilbert_series.proofs.generators.without_earlier_multiples.Goals as goal
 
 pub loop-m-preserved-in-Continue-branch-2 : goal.loop-m-preserved-in-Continue-branch-2

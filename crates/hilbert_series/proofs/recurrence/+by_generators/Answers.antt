@@ -1,8 +1,9 @@
 use Rattle.std.proofs.Common.{ap, arith, length, refl, rules, ◌+◌, ◌∙◌, ◌≡◌, ◌≤◌}
 use Rattle.hilbert_laws.specs.Shifting.{minus, shifted}
-use Rattle.hilbert_series.specs.Generators.{HaveSameCoefficients, IsNumeratorWith, monomials}
+use Rattle.hilbert_series.specs.Generators.{HaveSameCoefficients, IsNumeratorWith}
 use Rattle.hilbert_series.proofs.Lists.{by_last, by_last_apart, last_generator, last_quotients_apart, no_generators, slice_small_with}
 use Rattle.hilbert_series.proofs.Loops.{ok_more}
+use Rattle.monomial_orders.specs.Kept.{monomials}
 use Rattle.hilbert_series.proofs.recurrence.+by_generators.Goals as goal
 
 pub returns-in_default : goal.returns-in_default

@@ -1,9 +1,10 @@
 use Rattle.std.proofs.Common.{arith, length, subst, subst₂, sym}
 use Rattle.hilbert_laws.specs.Numerators.{plus}
 use Rattle.hilbert_laws.specs.Shifting.{shifted}
-use Rattle.hilbert_series.specs.Generators.{AreCoprimeToAll, AreMonomialGenerators, HaveSameCoefficients, IsNumeratorWith, IsNumeratorSplit, monomials}
+use Rattle.hilbert_series.specs.Generators.{AreCoprimeToAll, AreMonomialGenerators, HaveSameCoefficients, IsNumeratorWith, IsNumeratorSplit}
 use Rattle.hilbert_series.proofs.Lists.{numerator_split, slice_small_with, some_holds, split_of_slice}
 use Rattle.hilbert_series.proofs.Loops.{ok_more}
+use Rattle.monomial_orders.specs.Kept.{monomials}
 use Rattle.hilbert_series.proofs.recurrence.+by_steps.Goals as goal
 
 pub plus_shifted-requires-clause-small_left : goal.plus_shifted-requires-clause-small_left

@@ -1,7 +1,8 @@
 use Rattle.std.proofs.Common.{length, rules}
-use Rattle.hilbert_series.specs.Generators.{IsNumeratorOf, IsNumeratorWith, monomials}
+use Rattle.hilbert_series.specs.Generators.{IsNumeratorOf, IsNumeratorWith}
 use Rattle.hilbert_series.proofs.Lists.{nothing_done, with_nothing_done}
 use Rattle.hilbert_series.proofs.Loops.{ok_more}
+use Rattle.monomial_orders.specs.Kept.{monomials}
 use Rattle.hilbert_series.proofs.recurrence.ideal_numerator.Goals as goal
 
 pub by_steps-requires-clause-start : goal.by_steps-requires-clause-start

@@ -1,6 +1,6 @@
 use Rattle.std.proofs.Common.{arith, length, refl, rules}
-use Rattle.hilbert_series.specs.Generators.{monomials}
 use Rattle.hilbert_series.proofs.Lists.{split_by_pivot}
+use Rattle.monomial_orders.specs.Kept.{monomials}
 use Rattle.hilbert_series.proofs.recurrence.split_by.Goals as goal
 
 pub returns : goal.returns

@@ -5,7 +5,7 @@ use Rattle.monomial_orders.specs.Monomials.{IsMonomial}
 use Rattle.term_lists.specs.Rings.{variables}
 use Rattle.term_lists.specs.Vectors.{AreTermsOver, sum_of}
 use Rattle.syzygy_engine.proofs.Marks.{marked_over, marked_sum}
-use Rattle.ideal_ops.specs.Components.{placed}
+use Rattle.ideal_ops.specs.Components.{positioned_at}
 use Rattle.ideal_ops.proofs.Dividing.{placed_over}
 use Rattle.ideal_ops.proofs.saturating.inverse_terms.Goals as goal
 
@@ -17,7 +17,7 @@ returns-clause-terms c =
     let weighed = subst (λ z. IsWeighed z ring.weights m) c.len.ensures (c.in_ok-unit.ensures.weighed ring.weights) in
     let whole = c.in_ok-push.ensures.items ∙ ap (λ z. z ++ (record { position = j; monomial = m }, 1) ∷ []) c.in_ok-terms.ensures in
     subst (AreTermsOver ring) (sym whole)
-    (marked_over ring (placed j c.args.w.now) j m c.domain.ensures.above_one (placed_over ring j c.args.w.now c.requires) weighed)
+    (marked_over ring (positioned_at j c.args.w.now) j m c.domain.ensures.above_one (placed_over ring j c.args.w.now c.requires) weighed)
 
 pub returns-clause-sum : goal.returns-clause-sum
 returns-clause-sum c =
@@ -26,4 +26,4 @@ returns-clause-sum c =
     let m = c.in_ok-unit.field-0 in
     let unit_of = subst (λ z. IsMonomial z (unit z) m.exponents) c.len.ensures c.in_ok-unit.ensures.ok in
     let whole = c.in_ok-push.ensures.items ∙ ap (λ z. z ++ (record { position = j; monomial = m }, 1) ∷ []) c.in_ok-terms.ensures in
-    ap (sum_of n) whole ∙ marked_sum n (placed j c.args.w.now) j m unit_of
+    ap (sum_of n) whole ∙ marked_sum n (positioned_at j c.args.w.now) j m unit_of

@@ -1,7 +1,7 @@
 use Rattle.std.proofs.Common.{length, sum, ◌*◌, ◌-◌}
 use Rattle.term_lists.specs.Vectors.{sums_of}
 use Rattle.order_change.specs.Changing.{IsChanging}
-use Rattle.order_change.specs.Lists.{monomials}
+use Rattle.monomial_orders.specs.Kept.{monomials}
 use Rattle.order_change.proofs.change.changed.Given as goal
 
 abbrev pub invariant-loop-change : goal.invariant-loop-change

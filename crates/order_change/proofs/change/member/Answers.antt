@@ -3,14 +3,13 @@ use Rattle.std.specs.Prelude.{slice_index}
 use Rattle.formal_sums.proofs.WeightedSums.{Each_append}
 use Rattle.formal_sums.specs.FormalSums.{Each, IsSame}
 use Rattle.monomials.specs.Exponents.{exponents_of}
-use Rattle.monomial_orders.specs.Kept.{IsWeighed}
+use Rattle.monomial_orders.specs.Kept.{IsWeighed, monomials}
 use Rattle.term_lists.specs.Rings.{ring_comparison}
 use Rattle.term_lists.specs.Vectors.{IsVector, key_of, sum_of}
 use Rattle.term_lists.specs.declared.key.Key.{Key as CodeKey}
 use Rattle.change_laws.specs.Combinations.{expansion}
 use Rattle.order_change.proofs.Items.{length_monomials}
 use Rattle.order_change.proofs.Stepping.{terms_last}
-use Rattle.order_change.specs.Lists.{monomials}
 use Rattle.order_change.proofs.change.member.Goals as goal
 
 pub from_terms-requires : goal.from_terms-requires

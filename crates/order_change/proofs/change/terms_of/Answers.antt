@@ -3,13 +3,12 @@ use Rattle.std.specs.Prelude.{slice_index}
 use Rattle.formal_sums.proofs.WeightedSums.{Each_append}
 use Rattle.formal_sums.specs.FormalSums.{Each}
 use Rattle.monomials.specs.Exponents.{exponents_of, unit}
-use Rattle.monomial_orders.specs.Kept.{IsWeighed}
+use Rattle.monomial_orders.specs.Kept.{IsWeighed, monomials}
 use Rattle.term_lists.specs.Vectors.{key_of, sum_of}
 use Rattle.term_lists.specs.declared.key.Key.{Key as CodeKey}
 use Rattle.change_laws.specs.Combinations.{expansion}
 use Rattle.order_change.proofs.Items.{item_at, length_monomials}
 use Rattle.order_change.proofs.Stepping.{take_whole, terms_more}
-use Rattle.order_change.specs.Lists.{monomials}
 use Rattle.order_change.proofs.change.terms_of.Goals as goal
 
 pub loop-k-init : goal.loop-k-init

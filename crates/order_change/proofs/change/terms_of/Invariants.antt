@@ -1,10 +1,9 @@
 use Rattle.std.proofs.Common.{length, take, ◌<◌, ◌≡◌}
 use Rattle.std.specs.Prelude.{slice_index}
 use Rattle.formal_sums.specs.FormalSums.{Each}
-use Rattle.monomial_orders.specs.Kept.{IsWeighed}
+use Rattle.monomial_orders.specs.Kept.{IsWeighed, monomials}
 use Rattle.term_lists.specs.Vectors.{sum_of}
 use Rattle.change_laws.specs.Combinations.{expansion}
-use Rattle.order_change.specs.Lists.{monomials}
 use Rattle.order_change.proofs.change.terms_of.Given as goal
 
 abbrev pub invariant-loop-k : goal.invariant-loop-k

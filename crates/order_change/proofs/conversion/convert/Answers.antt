@@ -6,10 +6,11 @@ use Rattle.change_laws.specs.Standard.{AreDistinct, AreStandard, Has}
 use Rattle.order_change.proofs.Finishing.{given}
 use Rattle.order_change.proofs.Sorting.{standard_sorted}
 use Rattle.order_change.proofs.Stepping.{few_room}
-use Rattle.order_change.specs.Lists.{AreMonomials, monomials}
+use Rattle.order_change.specs.Lists.{AreMonomials}
 use Rattle.order_change.specs.Products.{HaveRoom}
 use Rattle.order_change.specs.Stops.{OrderChangeStops}
 use Rattle.order_change.specs.Tables.{IsBasisGiven}
+use Rattle.monomial_orders.specs.Kept.{monomials}
 use Rattle.order_change.proofs.conversion.convert.Goals as goal
 
 pub standard_monomials-requires : goal.standard_monomials-requires

@@ -7,8 +7,8 @@ use Rattle.term_lists.specs.declared.ring.Ring.{Ring}
 use Rattle.groebner_iface.specs.Runs.{IsReducedBasisOf}
 use Rattle.order_change.proofs.Finishing.{answer, ready}
 use Rattle.order_change.specs.Changing.{AreVariableProducts, IsChanged, IsFormModulo}
-use Rattle.order_change.specs.Lists.{monomials}
 use Rattle.order_change.specs.Reordered.{with_order}
+use Rattle.monomial_orders.specs.Kept.{monomials}
 use Rattle.order_change.proofs.conversion.converted.Goals as goal
 
 pub changed-requires : goal.changed-requires

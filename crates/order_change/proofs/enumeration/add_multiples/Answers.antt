@@ -1,9 +1,10 @@
 use Rattle.std.proofs.Common.{arith, false, get_or, length, refl, subst, sym, true, ◌+◌, ◌≡◌, ◌≤◌}
 use Rattle.monomials.specs.Exponents.{exponents_of}
-use Rattle.order_change.specs.Lists.{IsNew, monomials}
+use Rattle.order_change.specs.Lists.{IsNew}
 use Rattle.order_change.proofs.Listed.{IsMultiplying_done, IsMultiplying_push, IsMultiplying_skip, many}
 use Rattle.order_change.specs.Lists.{IsMultiplying}
 use Rattle.order_change.proofs.enumeration.add_multiples.Goals.{then-is_new+else-len-ge-MOST+in_ok-push, else-is_new}
+use Rattle.monomial_orders.specs.Kept.{monomials}
 use Rattle.order_change.proofs.enumeration.add_multiples.Goals as goal
 
 pub returns-then-len-ge-MOST-clause-stop : goal.returns-then-len-ge-MOST-clause-stop

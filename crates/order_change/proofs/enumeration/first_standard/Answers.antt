@@ -1,7 +1,7 @@
 use Rattle.std.proofs.Common.{ap, false, length, refl, subst, sym, true, [], ◌++◌, ◌∙◌, ◌∷◌, ◌≡◌}
-use Rattle.monomial_orders.specs.Kept.{IsWeighed}
+use Rattle.monomial_orders.specs.Kept.{IsWeighed, monomials}
 use Rattle.change_laws.specs.Standard.{IsStandard}
-use Rattle.order_change.specs.Lists.{AreListed, monomials}
+use Rattle.order_change.specs.Lists.{AreListed}
 use Rattle.order_change.proofs.Items.{unit_by}
 use Rattle.order_change.proofs.Listed.{AreListed_none, AreListed_one}
 use Rattle.order_change.proofs.enumeration.first_standard.Goals as goal

@@ -1,7 +1,8 @@
 use Rattle.std.proofs.Common.{arith, false, length, subst, sym, true, ◌+◌, ◌≡◌, ◌≤◌}
-use Rattle.order_change.specs.Lists.{IsListing, monomials}
+use Rattle.order_change.specs.Lists.{IsListing}
 use Rattle.order_change.proofs.Listed.{AreFew_listed, AreMultiplied_all, AreMultiplied_past, AreStandard_listed}
 use Rattle.order_change.proofs.enumeration.standard_monomials.Goals.{then-at-len+in_ok-add_multiples, else-at-len}
+use Rattle.monomial_orders.specs.Kept.{monomials}
 use Rattle.order_change.proofs.enumeration.standard_monomials.Goals as goal
 
 pub loop-at-preserved : goal.loop-at-preserved

@@ -1,5 +1,6 @@
 use Rattle.std.proofs.Common.{length}
-use Rattle.order_change.specs.Lists.{IsListing, monomials}
+use Rattle.order_change.specs.Lists.{IsListing}
+use Rattle.monomial_orders.specs.Kept.{monomials}
 use Rattle.order_change.proofs.enumeration.standard_monomials.Given as goal
 
 abbrev pub invariant-loop-at : goal.invariant-loop-at

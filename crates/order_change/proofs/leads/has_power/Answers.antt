@@ -1,8 +1,8 @@
 use Rattle.std.proofs.Common.{false, get_or, length, sym, true, ℕ, ◌∙◌, ◌≡◌}
 use Rattle.monomials.specs.Exponents.{unit}
 use Rattle.change_laws.specs.Standard.{power}
-use Rattle.order_change.specs.Lists.{monomials}
 use Rattle.order_change.proofs.Items.{item_at, one_more}
+use Rattle.monomial_orders.specs.Kept.{monomials}
 use Rattle.order_change.proofs.leads.has_power.Goals as goal
 
 pub loop-lead-preserved : goal.loop-lead-preserved

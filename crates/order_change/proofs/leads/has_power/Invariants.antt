@@ -1,7 +1,7 @@
 use Rattle.std.proofs.Common.{get_or, length, ℕ, ◌<◌, ◌≡◌}
 use Rattle.monomials.specs.Exponents.{unit}
 use Rattle.change_laws.specs.Standard.{power}
-use Rattle.order_change.specs.Lists.{monomials}
+use Rattle.monomial_orders.specs.Kept.{monomials}
 use Rattle.order_change.proofs.leads.has_power.Given as goal
 
 abbrev pub invariant-loop-lead : goal.invariant-loop-lead

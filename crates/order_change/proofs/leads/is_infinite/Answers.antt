@@ -1,7 +1,7 @@
 use Rattle.std.proofs.Common.{arith, false, length, refl, true, ℕ, ◌<◌, ◌≡◌, ◌≤◌}
 use Rattle.change_laws.specs.Standard.{Has, power}
-use Rattle.order_change.specs.Lists.{monomials}
 use Rattle.order_change.proofs.Items.{one_more}
+use Rattle.monomial_orders.specs.Kept.{monomials}
 use Rattle.order_change.proofs.leads.is_infinite.Goals as goal
 
 pub loop-i-preserved : goal.loop-i-preserved

@@ -1,6 +1,6 @@
 use Rattle.std.proofs.Common.{length, ℕ, ◌<◌}
 use Rattle.change_laws.specs.Standard.{Has, power}
-use Rattle.order_change.specs.Lists.{monomials}
+use Rattle.monomial_orders.specs.Kept.{monomials}
 use Rattle.order_change.proofs.leads.is_infinite.Given as goal
 
 abbrev pub invariant-loop-i : goal.invariant-loop-i

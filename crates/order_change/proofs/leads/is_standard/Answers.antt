@@ -1,7 +1,7 @@
 use Rattle.std.proofs.Common.{false, get_or, length, refl, subst, sym, true, ◌≡◌}
 use Rattle.monomials.specs.Exponents.{Divides, exponents_of, unit}
-use Rattle.order_change.specs.Lists.{monomials}
 use Rattle.order_change.proofs.Items.{divides_by, is_free, item_at, not_standard, one_more}
+use Rattle.monomial_orders.specs.Kept.{monomials}
 use Rattle.order_change.proofs.leads.is_standard.Goals as goal
 
 pub returns-then-divides : goal.returns-then-divides

@@ -1,7 +1,7 @@
 use Rattle.std.proofs.Common.{arith, false, get_or, length, sym, true, ◌<◌, ◌∙◌, ◌≡◌}
 use Rattle.monomials.specs.Exponents.{exponents_of, unit}
-use Rattle.order_change.specs.Lists.{monomials}
 use Rattle.order_change.proofs.Items.{equal_by, item_at, one_more}
+use Rattle.monomial_orders.specs.Kept.{monomials}
 use Rattle.order_change.proofs.leads.position.Goals as goal
 
 pub loop-i-preserved : goal.loop-i-preserved

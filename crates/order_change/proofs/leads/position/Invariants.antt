@@ -1,6 +1,6 @@
 use Rattle.std.proofs.Common.{get_or, length, ℕ, ◌<◌, ◌≡◌}
 use Rattle.monomials.specs.Exponents.{exponents_of, unit}
-use Rattle.order_change.specs.Lists.{monomials}
+use Rattle.monomial_orders.specs.Kept.{monomials}
 use Rattle.order_change.proofs.leads.position.Given as goal
 
 abbrev pub invariant-loop-i : goal.invariant-loop-i

@@ -2,12 +2,12 @@ use Rattle.std.proofs.Common.{ap, arith, get_or, length, length-append, rules, s
 use Rattle.std.proofs.lemmas.List.{get_or_default}
 use Rattle.monomials.specs.Exponents.{exponents_of, unit}
 use Rattle.bases.specs.Leads.{head_key}
-use Rattle.monomial_orders.specs.Kept.{IsWeighed}
+use Rattle.monomial_orders.specs.Kept.{IsWeighed, monomials}
 use Rattle.term_lists.specs.Rings.{variables}
 use Rattle.term_lists.specs.Vectors.{sum_of}
 use Rattle.order_change.proofs.BasisLeads.{basis_some, lead_is, lead_weighed, leads_all, leads_push}
 use Rattle.order_change.proofs.Listed.{AreMonomials_push}
-use Rattle.order_change.specs.Lists.{AreMonomials, monomials}
+use Rattle.order_change.specs.Lists.{AreMonomials}
 use Rattle.order_change.proofs.listing.leads_of.Goals as goal
 
 pub bounds-terms-0 : goal.bounds-terms-0

@@ -4,7 +4,8 @@ use Rattle.monomials.specs.Exponents.{unit}
 use Rattle.bases.specs.Leads.{head_key}
 use Rattle.term_lists.specs.Rings.{variables}
 use Rattle.term_lists.specs.Vectors.{sum_of}
-use Rattle.order_change.specs.Lists.{AreMonomials, monomials}
+use Rattle.order_change.specs.Lists.{AreMonomials}
+use Rattle.monomial_orders.specs.Kept.{monomials}
 use Rattle.order_change.proofs.listing.leads_of.Given as goal
 
 abbrev pub invariant-loop-v : goal.invariant-loop-v

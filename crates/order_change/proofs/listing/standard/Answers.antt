@@ -1,9 +1,9 @@
 use Rattle.std.proofs.Common.{length, subst, sym, ◌≡◌}
-use Rattle.monomial_orders.specs.Kept.{IsWeighed}
+use Rattle.monomial_orders.specs.Kept.{IsWeighed, monomials}
 use Rattle.term_lists.specs.Rings.{variables}
 use Rattle.change_laws.specs.Standard.{AreStandard}
 use Rattle.order_change.proofs.BasisLeads.{each_item}
-use Rattle.order_change.specs.Lists.{AreMonomials, monomials}
+use Rattle.order_change.specs.Lists.{AreMonomials}
 use Rattle.order_change.specs.Stops.{AreFew, OrderChangeStops}
 use Rattle.order_change.proofs.listing.standard.Goals as goal
 

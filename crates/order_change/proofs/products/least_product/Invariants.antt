@@ -2,8 +2,8 @@ use Rattle.std.proofs.Common.{length, MatchOption}
 use Rattle.std.specs.Prelude.{slice_index}
 use Rattle.monomials.specs.Exponents.{exponents_of}
 use Rattle.monomial_orders.specs.Comparisons.{comparison}
-use Rattle.order_change.specs.Lists.{monomials}
 use Rattle.order_change.specs.Products.{HadAllItems, IsCandidate, IsLeast}
+use Rattle.monomial_orders.specs.Kept.{monomials}
 use Rattle.order_change.proofs.products.least_product.Given as goal
 
 abbrev pub invariant-loop-v : goal.invariant-loop-v

@@ -5,8 +5,8 @@ use Rattle.formal_sums.specs.FormalSums.{Each}
 use Rattle.order_change.proofs.Borders.{IsProductWhere, IsZeroWhere, candidate_covered, candidate_form, candidate_known, candidate_residues, candidate_rows, candidate_smaller}
 use Rattle.order_change.proofs.Filling.{if_ok3}
 use Rattle.order_change.specs.Forms.{AreResidues}
-use Rattle.order_change.specs.Lists.{monomials}
 use Rattle.order_change.specs.Tables.{IsFormOver, IsSmaller, IsSpare}
+use Rattle.monomial_orders.specs.Kept.{monomials}
 use Rattle.order_change.proofs.table.border_form.Goals as goal
 
 pub bounds-of_variable-k : goal.bounds-of_variable-k

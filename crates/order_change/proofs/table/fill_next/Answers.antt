@@ -5,8 +5,8 @@ use Rattle.monomial_orders.specs.Comparisons.{comparison}
 use Rattle.term_lists.specs.Vectors.{sums_of}
 use Rattle.order_change.proofs.Filling.{filling_candidate, filling_least, filling_more, sum_below}
 use Rattle.order_change.proofs.Items.{length_monomials}
-use Rattle.order_change.specs.Lists.{monomials}
 use Rattle.order_change.specs.Products.{HadAllItems, IsCandidate, IsLeast}
+use Rattle.monomial_orders.specs.Kept.{monomials}
 use Rattle.order_change.proofs.table.fill_next.Goals as goal
 
 pub product_form-requires-clause-candidate : goal.product_form-requires-clause-candidate

@@ -3,8 +3,8 @@ use Rattle.monomials.specs.Exponents.{exponents_of, unit}
 use Rattle.change_laws.specs.Standard.{Has, IsStandard}
 use Rattle.order_change.proofs.Borders.{unit_divisor}
 use Rattle.order_change.proofs.Items.{unit_by}
-use Rattle.order_change.specs.Lists.{monomials}
 use Rattle.order_change.specs.Tables.{IsFormOver}
+use Rattle.monomial_orders.specs.Kept.{monomials}
 use Rattle.order_change.proofs.table.form_of_one.Goals as goal
 
 pub unreachable-requires : goal.unreachable-requires

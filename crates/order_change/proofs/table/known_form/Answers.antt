@@ -6,7 +6,7 @@ use Rattle.term_lists.specs.Vectors.{sums_of}
 use Rattle.order_change.proofs.Filling.{standard_normal}
 use Rattle.order_change.proofs.Items.{length_monomials}
 use Rattle.order_change.specs.Forms.{AreResidues}
-use Rattle.order_change.specs.Lists.{monomials}
+use Rattle.monomial_orders.specs.Kept.{monomials}
 use Rattle.order_change.proofs.table.known_form.Goals as goal
 
 pub returns-in-Some-clause-some : goal.returns-in-Some-clause-some

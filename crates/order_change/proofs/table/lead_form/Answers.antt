@@ -7,8 +7,8 @@ use Rattle.change_laws.specs.Combinations.{expansion}
 use Rattle.order_change.proofs.Filling.{empty_of, if_ok3, item_read}
 use Rattle.order_change.proofs.Tails.{count_basis, given_lead, given_some, given_tail}
 use Rattle.order_change.specs.Forms.{AreResidues}
-use Rattle.order_change.specs.Lists.{monomials}
 use Rattle.order_change.specs.Tables.{IsFormOver, IsSupported}
+use Rattle.monomial_orders.specs.Kept.{monomials}
 use Rattle.order_change.proofs.table.lead_form.Goals as goal
 
 pub negated-requires-clause-terms : goal.negated-requires-clause-terms

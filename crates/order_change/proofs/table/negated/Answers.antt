@@ -1,7 +1,7 @@
 use Rattle.std.proofs.Common.{arith, length, sym, ◌<◌, ◌≡◌}
 use Rattle.order_change.proofs.Items.{length_monomials}
 use Rattle.order_change.proofs.Tails.{negating_all, negating_first, negating_more}
-use Rattle.order_change.specs.Lists.{monomials}
+use Rattle.monomial_orders.specs.Kept.{monomials}
 use Rattle.order_change.proofs.table.negated.Goals as goal
 
 pub loop-term-init : goal.loop-term-init

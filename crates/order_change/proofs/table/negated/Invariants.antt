@@ -1,6 +1,6 @@
 use Rattle.std.proofs.Common.{length}
 use Rattle.order_change.proofs.Tails.{IsNegating}
-use Rattle.order_change.specs.Lists.{monomials}
+use Rattle.monomial_orders.specs.Kept.{monomials}
 use Rattle.order_change.proofs.table.negated.Given as goal
 
 abbrev pub invariant-loop-term : goal.invariant-loop-term

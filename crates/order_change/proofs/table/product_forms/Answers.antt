@@ -2,7 +2,7 @@ use Rattle.std.proofs.Common.{arith, length}
 use Rattle.monomial_orders.specs.Comparisons.{comparison}
 use Rattle.term_lists.specs.Vectors.{sums_of}
 use Rattle.order_change.proofs.Filling.{filling_first}
-use Rattle.order_change.specs.Lists.{monomials}
+use Rattle.monomial_orders.specs.Kept.{monomials}
 use Rattle.order_change.proofs.table.product_forms.Goals as goal
 
 pub loop-turns-init : goal.loop-turns-init

@@ -5,8 +5,8 @@ use Rattle.monomial_orders.specs.Monomials.{IsCofactor, IsQuotient}
 use Rattle.change_laws.specs.Standard.{Has, power}
 use Rattle.order_change.proofs.Filling.{if_none, if_some}
 use Rattle.order_change.proofs.Items.{item_at, length_monomials, variable_power}
-use Rattle.order_change.specs.Lists.{monomials}
 use Rattle.order_change.specs.Tables.{IsSmaller}
+use Rattle.monomial_orders.specs.Kept.{monomials}
 use Rattle.order_change.proofs.table.smaller_place.Goals as goal
 
 pub returns-in-Some-clause-some : goal.returns-in-Some-clause-some

@@ -2,8 +2,8 @@ use Rattle.std.proofs.Common.{[], arith, get_or, length, subst, IfSome, IfNone, 
 use Rattle.monomials.specs.Exponents.{Divides, exponents_of, unit}
 use Rattle.order_change.proofs.Borders.{spare_in}
 use Rattle.order_change.proofs.Items.{item_at, length_monomials, one_more}
-use Rattle.order_change.specs.Lists.{monomials}
 use Rattle.order_change.specs.Tables.{IsSpare}
+use Rattle.monomial_orders.specs.Kept.{monomials}
 use Rattle.order_change.proofs.table.spare_variable.Goals as goal
 
 pub returns-in-Some-clause-some : goal.returns-in-Some-clause-some

@@ -1,6 +1,6 @@
 use Rattle.std.proofs.Common.{get_or, length, ℕ, ◌<◌, ◌≡◌}
 use Rattle.monomials.specs.Exponents.{Divides, exponents_of, unit}
-use Rattle.order_change.specs.Lists.{monomials}
+use Rattle.monomial_orders.specs.Kept.{monomials}
 use Rattle.order_change.proofs.table.spare_variable.Given as goal
 
 abbrev pub invariant-loop-lead : goal.invariant-loop-lead

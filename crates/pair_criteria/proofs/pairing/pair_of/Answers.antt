@@ -1,7 +1,7 @@
 use Rattle.std.proofs.Common.{arith, subst, ◌∙◌}
 use Rattle.std.proofs.lemmas.List.{get_or_default}
 use Rattle.monomial_orders.specs.Kept.{IsWeighed}
-use Rattle.pair_criteria.specs.Pairs.{variables_of}
+use Rattle.pair_criteria.specs.Pairs.{key_variables}
 use Rattle.pair_criteria.proofs.PairsOfLeads.{pair_is}
 use Rattle.pair_criteria.proofs.pairing.pair_of.Goals as goal
 
@@ -20,6 +20,6 @@ pub returns-clause-weighed : goal.returns-clause-weighed
 returns-clause-weighed c =
     let leads = c.args.leads.now in
     let a = c.index-leads-i.result in
-    subst (λ k. IsWeighed (variables_of k) c.args.weights.now c.in_ok-monomial.monomial)
+    subst (λ k. IsWeighed (key_variables k) c.args.weights.now c.in_ok-monomial.monomial)
     (c.index-leads-i.is ∙ get_or_default leads c.args.i a _ (omega arith))
     c.in_ok-monomial.ensures.weighed

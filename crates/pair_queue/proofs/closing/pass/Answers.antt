@@ -4,7 +4,7 @@ use Rattle.basis_steps.proofs.Counting.{pair_ordered, pair_swapped}
 use Rattle.basis_steps.specs.Pairs.{pair_of}
 use Rattle.pair_queue.proofs.Putting.{either, put_fewer, put_here, still_free, still_shut}
 use Rattle.pair_updates.specs.Leads.{setting_of_leads, sums_shown}
-use Rattle.pair_queue.specs.Tables.{cleared, flag}
+use Rattle.pair_queue.specs.Tables.{flag, flag_cleared}
 use Rattle.pair_queue.proofs.closing.pass.Goals as goal
 
 pub close_by-requires-clause-gone : goal.close_by-requires-clause-gone
@@ -37,7 +37,7 @@ returns-clause-known c = λ x lt same known.
     let m = c.args.leads.now in
     let S = setting_of_leads m.variables m in
     let G = sums_shown m in
-    let now : flag c.put.new.self ≡ cleared (flag c.args.waits.now) (c.args.i, c.args.j) = λ t z. c.put.ensures.flags z t in
+    let now : flag c.put.new.self ≡ flag_cleared (flag c.args.waits.now) (c.args.i, c.args.j) = λ t z. c.put.ensures.flags z t in
     record {
       shut = still_shut S G (flag c.args.waits.now) (flag c.put.new.self) c.args.i c.args.j now
           (flag c.args.due.now) (flag c.put-2.new.self) (flag c.close_by.new.due)

@@ -9,7 +9,7 @@ use Rattle.pair_updates.proofs.Leading.{leads_length}
 use Rattle.pair_queue.proofs.OutPairs.{take_next}
 use Rattle.pair_queue.proofs.Putting.{each_more, others_more, set_more}
 use Rattle.pair_updates.specs.Leads.{sums_shown}
-use Rattle.pair_updates.specs.Pairs.{pair_of, pairs_of}
+use Rattle.pair_updates.specs.Pairs.{index_pair_of, pairs_of}
 use Rattle.pair_updates.specs.LeadCriteria.{ProductSpares}
 use Rattle.pair_queue.specs.Tables.{flag}
 use Rattle.pair_queue.proofs.flags.flag_pairs.Goals as goal
@@ -25,17 +25,17 @@ loop-k-init c = record {
 }
 
 pub put-requires-clause-order : goal.put-requires-clause-order
-put-requires-clause-order c = (Each_at (λ (x : CodePair). IsPair (sums_shown c.args.leads.now) (pair_of x)) c.args.pairs.now c.loop-k.k
+put-requires-clause-order c = (Each_at (λ (x : CodePair). IsPair (sums_shown c.args.leads.now) (index_pair_of x)) c.args.pairs.now c.loop-k.k
     c.index-pairs-k.result c.requires.real c.loop-k-test.true c.index-pairs-k.is).ordered
 
 pub put-requires-clause-within : goal.put-requires-clause-within
 put-requires-clause-within c =
-    let real = Each_at (λ (x : CodePair). IsPair (sums_shown c.args.leads.now) (pair_of x)) c.args.pairs.now c.loop-k.k c.index-pairs-k.result
+    let real = Each_at (λ (x : CodePair). IsPair (sums_shown c.args.leads.now) (index_pair_of x)) c.args.pairs.now c.loop-k.k c.index-pairs-k.result
     c.requires.real c.loop-k-test.true c.index-pairs-k.is in
     omega (arith, real.within, leads_length c.args.leads.now.variables c.args.leads.now.keys, c.loop-k.invariant.waits_size)
 
 pub product_spares-requires : goal.product_spares-requires
-product_spares-requires c = Each_at (λ (x : CodePair). IsPair (sums_shown c.args.leads.now) (pair_of x)) c.args.pairs.now c.loop-k.k
+product_spares-requires c = Each_at (λ (x : CodePair). IsPair (sums_shown c.args.leads.now) (index_pair_of x)) c.args.pairs.now c.loop-k.k
     c.index-pairs-k.result c.requires.real c.loop-k-test.true c.index-pairs-k.is
 
 not_false : (b : Bool) → not b ≡ false → b ≡ true
@@ -49,7 +49,7 @@ not_of_true false e = refl
 pub loop-k-preserved : goal.loop-k-preserved
 loop-k-preserved c =
     let x : CodePair = c.index-pairs-k.result in
-    let p : Pair = pair_of x in
+    let p : Pair = index_pair_of x in
     let ps : List Pair = pairs_of c.args.pairs.now in
     let k = c.loop-k.k in
     let inv = c.loop-k.invariant in

@@ -9,7 +9,7 @@ use Rattle.pair_queue.specs.Giving.{HasCleared}
 use Rattle.pair_updates.specs.Leads.{LeadsShown}
 use Rattle.pair_queue.specs.Outs.{outs_of}
 use Rattle.pair_queue.specs.Skipping.{IsKnown}
-use Rattle.pair_queue.specs.Tables.{TableShown, flag, size}
+use Rattle.pair_queue.specs.Tables.{TableShown, flag, member_count}
 use Rattle.pair_queue.proofs.giving.pass_all.Goals as goal
 use Rattle.pair_queue.proofs.giving.pass_all.Goals.{else-o-worker, then-o-worker}
 
@@ -29,8 +29,8 @@ loop-o-preserved c =
       | then-o-worker w₁ ↦
           (let job : job_of w (outs_of (take (i + 1) out)) ≡ before ++ (p ∷ []) = mine_taken w out i d c.loop-o-test.true w₁.if-o-worker.true in
           record {
-            waits_size = ap size w₁.waits-is ∙ w₁.pass.ensures.waits_size ∙ inv.waits_size;
-            due_size = ap size w₁.due-is ∙ w₁.pass.ensures.due_size ∙ inv.due_size;
+            waits_size = ap member_count w₁.waits-is ∙ w₁.pass.ensures.waits_size ∙ inv.waits_size;
+            due_size = ap member_count w₁.due-is ∙ w₁.pass.ensures.due_size ∙ inv.due_size;
             flags = subst (λ (z : List Pair × TableShown). HasCleared z.0 old (flag z.1)) (λ t. (sym job t, sym w₁.waits-is t))
                 (more_cleared before p old (flag c.loop-o.waits) (flag w₁.pass.new.waits) inv.flags w₁.pass.ensures.waits);
             known = λ x lt none kn.
@@ -43,8 +43,8 @@ loop-o-preserved c =
       | else-o-worker w₁ ↦
           (let job : job_of w (outs_of (take (i + 1) out)) ≡ before = other_taken w out i d c.loop-o-test.true w₁.if-o-worker.false in
           record {
-            waits_size = ap size w₁.waits-is ∙ inv.waits_size;
-            due_size = ap size w₁.due-is ∙ inv.due_size;
+            waits_size = ap member_count w₁.waits-is ∙ inv.waits_size;
+            due_size = ap member_count w₁.due-is ∙ inv.due_size;
             flags = subst (λ (z : List Pair × TableShown). HasCleared z.0 old (flag z.1)) (λ t. (sym job t, sym w₁.waits-is t)) inv.flags;
             known = λ x lt none kn.
                 subst (λ (z : TableShown × TableShown). IsKnown m (flag z.0) (flag z.1) x) (λ t. (sym w₁.waits-is t, sym w₁.due-is t))

@@ -12,7 +12,7 @@ use Rattle.pair_updates.proofs.Leading.{lcms_of, pairs_real}
 use Rattle.pair_updates.proofs.NewPairs.{old_is_not_new}
 use Rattle.pair_updates.proofs.SameLeads.{each_queued}
 use Rattle.pair_updates.specs.Leads.{LeadsShown, setting_of_leads, sums_shown}
-use Rattle.pair_updates.specs.Pairs.{HasLcm, pair_of, pairs_of, AreIndices}
+use Rattle.pair_updates.specs.Pairs.{HasLcm, index_pair_of, pairs_of, AreIndices}
 use Rattle.pair_queue.specs.Queues.{QueueShown}
 use Rattle.pair_queue.specs.Tables.{flag}
 use Rattle.pair_queue.proofs.queueing.queue_new_pairs.Goals as goal
@@ -20,7 +20,7 @@ use Rattle.pair_queue.proofs.queueing.queue_new_pairs.Goals as goal
 pub flag_pairs-requires-clause-real : goal.flag_pairs-requires-clause-real
 flag_pairs-requires-clause-real c =
     let m : LeadsShown = c.args.leads.now in
-    subst (λ (l : List CodePair). Each (λ x. IsPair (sums_shown m) (pair_of x)) l) (sym c.deref.ensures.value)
+    subst (λ (l : List CodePair). Each (λ x. IsPair (sums_shown m) (index_pair_of x)) l) (sym c.deref.ensures.value)
     (each_queued (IsPair (sums_shown m)) c.in_ok-pairs.pairs.items
     (new_reals m c.args.first c.requires.first (pairs_of c.in_ok-pairs.pairs.items) (λ x. c.in_ok-pairs.ensures.same x ∙ c.in_ok-added.ensures.same x)))
 

@@ -7,7 +7,7 @@ use Rattle.pair_updates.proofs.Degrees.{least_is, number_more, same_degree}
 use Rattle.pair_updates.proofs.LeastDegree.{least_before}
 use Rattle.pair_updates.proofs.PairOrder.{degree_is}
 use Rattle.pair_updates.proofs.PairLists.{pairs_length}
-use Rattle.pair_updates.specs.Pairs.{HasLcm, pair_of, pairs_of}
+use Rattle.pair_updates.specs.Pairs.{HasLcm, index_pair_of, pairs_of}
 use Rattle.pair_updates.specs.Leads.{setting_of_leads, sums_shown}
 use Rattle.pair_queue.proofs.sharing.count_least_degree.Goals as goal
 
@@ -32,11 +32,11 @@ loop-k-preserved c = λ m h.
     let least = c.degree-least.result in
     let k = c.loop-k.k in
     let more = number_more S G least c.args.queue.now k x c.loop-k-test.true c.index-queue-k.is in
-    let at : degree_of S G (pair_of x) ≡ c.degree.result =
+    let at : degree_of S G (index_pair_of x) ≡ c.degree.result =
     degree_is m x (Each_at (HasLcm m) c.args.queue.now k x h c.loop-k-test.true c.index-queue-k.is)
     ∙ ap (λ (z : CodePair). z.lcm.monomial.degree) c.index-queue-k.is ∙ sym c.degree.ensures.value in
-    let one : ◌≡◌ {A = ℕ} (cond (nat_eq (degree_of S G (pair_of x)) least) 1 0) 1 =
-    same_degree (degree_of S G (pair_of x)) least c.degree.result c.degree.result at refl c.if-degree-least.false in
+    let one : ◌≡◌ {A = ℕ} (cond (nat_eq (degree_of S G (index_pair_of x)) least) 1 0) 1 =
+    same_degree (degree_of S G (index_pair_of x)) least c.degree.result c.degree.result at refl c.if-degree-least.false in
     omega (arith, more, one, c.loop-k.invariant m h)
 
 pub returns-clause-count : goal.returns-clause-count

@@ -12,9 +12,9 @@ use Rattle.pair_updates.proofs.LeastDegree.{sorted_without}
 use Rattle.pair_queue.proofs.Passing.{left_back, left_kept, pass_over}
 use Rattle.pair_updates.proofs.PairLists.{pairs_append}
 use Rattle.pair_updates.specs.Leads.{setting_of_leads, sums_shown}
-use Rattle.pair_updates.specs.Pairs.{IsRealPair, pair_of, pairs_of}
+use Rattle.pair_updates.specs.Pairs.{IsRealPair, index_pair_of, pairs_of}
 use Rattle.pair_queue.specs.Skipping.{AreSkipped, IsKnown, IsSpared, NoneIsSpared}
-use Rattle.pair_queue.specs.Tables.{cleared, flag}
+use Rattle.pair_queue.specs.Tables.{flag, flag_cleared}
 use Rattle.pair_queue.proofs.skipping.skip.Goals as goal
 
 pub has-requires-clause-order : goal.has-requires-clause-order
@@ -57,7 +57,7 @@ skip_pair-requires-clause-known c =
     let is : x ≡ get_or q next x = c.index-as_slice-next.is ∙ ap (λ (l : List CodePair). get_or l next x) c.as_slice.ensures in
     let first : drop next q ≡ x ∷ rest = drop_more q next x there ∙ ap (λ (z : CodePair). z ∷ rest) (sym is) in
     let P = IsKnown m (flag c.loop-next.waits) (flag c.loop-next.due) in
-    each_without P (pairs_of kept) (pairs_of rest) (pair_of x) (subst (λ (l : List CodePair). Each P (pairs_of kept ++ pairs_of l)) first inv.known)
+    each_without P (pairs_of kept) (pairs_of rest) (index_pair_of x) (subst (λ (l : List CodePair). Each P (pairs_of kept ++ pairs_of l)) first inv.known)
 
 pub skip_pair-requires-clause-spared : goal.skip_pair-requires-clause-spared
 skip_pair-requires-clause-spared c =
@@ -72,7 +72,7 @@ skip_pair-requires-clause-spared c =
     let is : x ≡ get_or q next x = c.index-as_slice-next.is ∙ ap (λ (l : List CodePair). get_or l next x) c.as_slice.ensures in
     let first : drop next q ≡ x ∷ rest = drop_more q next x there ∙ ap (λ (z : CodePair). z ∷ rest) (sym is) in
     let P = IsKnown m (flag c.loop-next.waits) (flag c.loop-next.due) in
-    let known : P (pair_of x) = each_here P (pairs_of kept) (pairs_of rest) (pair_of x)
+    let known : P (index_pair_of x) = each_here P (pairs_of kept) (pairs_of rest) (index_pair_of x)
     (subst (λ (l : List CodePair). Each P (pairs_of kept ++ pairs_of l)) first inv.known) in
     known.shut (sym c.has.ensures ∙ c.if-not-has.true)
 
@@ -95,9 +95,9 @@ loop-next-preserved-then-not-has c =
     let fewer : List CodePair = take count c.skip_pair.new.queue.items in
     let more : List CodePair = drop c.skip_pair.result.1 c.skip_pair.new.queue.items in
     let P = IsKnown m (flag c.loop-next.waits) (flag c.loop-next.due) in
-    let known : P (pair_of x) = each_here P (pairs_of kept) (pairs_of rest) (pair_of x)
+    let known : P (index_pair_of x) = each_here P (pairs_of kept) (pairs_of rest) (index_pair_of x)
     (subst (λ (l : List CodePair). Each P (pairs_of kept ++ pairs_of l)) first inv.known) in
-    let spared : IsSpared m f (pair_of x) = known.shut (sym c.has.ensures ∙ c.if-not-has.true) in
+    let spared : IsSpared m f (index_pair_of x) = known.shut (sym c.has.ensures ∙ c.if-not-has.true) in
     record {
       waits_size = h.waits_size ∙ inv.waits_size;
       due_size = h.due_size ∙ inv.due_size;
@@ -105,15 +105,15 @@ loop-next-preserved-then-not-has c =
       order = omega (arith, h.place, h.fewer, inv.order);
       within = omega (arith, h.place, h.fewer, h.len, there);
       sorted = subst (IsSorted (setting_of_leads m.variables m) (sums_shown m)) (left_back count kept rest fewer more h.first h.rest)
-          (sorted_without (setting_of_leads m.variables m) (sums_shown m) (pairs_of kept) (pairs_of rest) (pair_of x)
+          (sorted_without (setting_of_leads m.variables m) (sums_shown m) (pairs_of kept) (pairs_of rest) (index_pair_of x)
           (subst (λ (l : List CodePair). IsSorted (setting_of_leads m.variables m) (sums_shown m) (pairs_of kept ++ pairs_of l)) first inv.sorted));
       none = h.none;
       known = h.known;
       skips = λ out table.
-          let old : AreSkipped m out all c.loop-next.skipped.items (pairs_of kept ++ pair_of x ∷ pairs_of rest) f =
+          let old : AreSkipped m out all c.loop-next.skipped.items (pairs_of kept ++ index_pair_of x ∷ pairs_of rest) f =
           subst (λ (l : List CodePair). AreSkipped m out all c.loop-next.skipped.items (pairs_of kept ++ pairs_of l) f) first (inv.skips out table) in
-          let new : AreSkipped m out all (c.loop-next.skipped.items ++ pair_of x ∷ []) (pairs_of kept ++ pairs_of rest) (cleared f (pair_of x)) =
-          pass_over m out all c.loop-next.skipped.items (pairs_of kept) (pairs_of rest) (pair_of x) f inv.none spared old in
+          let new : AreSkipped m out all (c.loop-next.skipped.items ++ index_pair_of x ∷ []) (pairs_of kept ++ pairs_of rest) (flag_cleared f (index_pair_of x)) =
+          pass_over m out all c.loop-next.skipped.items (pairs_of kept) (pairs_of rest) (index_pair_of x) f inv.none spared old in
           subst (λ (z : List Pair × List Pair × (Pair → Bool)). AreSkipped m out all z.0 z.1 z.2)
           (λ i. (sym c.push_reserved.ensures.items i, left_back count kept rest fewer more h.first h.rest i, sym h.waits i)) new;
       len = h.len ∙ inv.len;
@@ -155,9 +155,9 @@ loop-next-preserved c =
     let there : next < length q = omega (arith, c.loop-next-test.true, c.len.ensures) in
     let is : x ≡ get_or q next x = c.index-as_slice-next.is ∙ ap (λ (l : List CodePair). get_or l next x) c.as_slice.ensures in
     let first : drop next q ≡ x ∷ rest = drop_more q next x there ∙ ap (λ (z : CodePair). z ∷ rest) (sym is) in
-    let known : P (pair_of x) = each_here P (pairs_of kept) (pairs_of rest) (pair_of x)
+    let known : P (index_pair_of x) = each_here P (pairs_of kept) (pairs_of rest) (index_pair_of x)
     (subst (λ (l : List CodePair). Each P (pairs_of kept ++ pairs_of l)) first inv.known) in
-    let not : IsSpared m f (pair_of x) → ⊥ = known.free (sym c.has.ensures ∙ c.if-not-has.false) in
+    let not : IsSpared m f (index_pair_of x) → ⊥ = known.free (sym c.has.ensures ∙ c.if-not-has.false) in
     let more = c.keep.ensures.first x is in
     let rest_is = c.keep.ensures.rest in
     let same = ap (λ (l : List CodePair). pairs_of kept ++ pairs_of l) first ∙ left_kept kept rest x
@@ -171,7 +171,7 @@ loop-next-preserved c =
       sorted = subst (IsSorted (setting_of_leads m.variables m) (sums_shown m)) same inv.sorted;
       none = subst (λ (l : List CodePair). NoneIsSpared m f (pairs_of l)) (sym more)
           (subst (NoneIsSpared m f) (sym (pairs_append kept (x ∷ [])))
-          (Each_append (λ y. IsSpared m f y → ⊥) (pairs_of kept) (pair_of x ∷ []) inv.none (not, tt)));
+          (Each_append (λ y. IsSpared m f y → ⊥) (pairs_of kept) (index_pair_of x ∷ []) inv.none (not, tt)));
       known = subst (Each P) same inv.known;
       skips = λ out table. subst (λ (l : List Pair). AreSkipped m out all c.loop-next.skipped.items l f) same (inv.skips out table);
       len = c.keep.ensures.len ∙ inv.len;

@@ -6,14 +6,14 @@ use Rattle.basis_steps.specs.Queues.{IsSorted}
 use Rattle.pair_updates.specs.Leads.{setting_of_leads, sums_shown}
 use Rattle.pair_updates.specs.Pairs.{IsRealPair, pairs_of}
 use Rattle.pair_queue.specs.Skipping.{AreSkipped, IsKnown, NoneIsSpared}
-use Rattle.pair_queue.specs.Tables.{IsFlagTable, flag, size}
+use Rattle.pair_queue.specs.Tables.{IsFlagTable, flag, member_count}
 use Rattle.pair_queue.proofs.skipping.skip.Given as goal
 
 -- the pairs before `kept` are kept, and those from `next` on are left
 abbrev pub invariant-loop-next : goal.invariant-loop-next
 invariant-loop-next l = record {
-  waits_size : size l.waits ≡ length l.leads.keys;
-  due_size : size l.due ≡ length l.leads.keys;
+  waits_size : member_count l.waits ≡ length l.leads.keys;
+  due_size : member_count l.due ≡ length l.leads.keys;
   real : Each (IsRealPair l.leads) l.queue.items;
   order : l.kept ≤ l.next;
   within : l.next ≤ length l.queue.items;

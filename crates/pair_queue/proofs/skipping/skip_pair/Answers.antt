@@ -16,14 +16,14 @@ use Rattle.pair_queue.proofs.SameLcm.{none_kept}
 use Rattle.pair_updates.specs.Leads.{setting_of_leads, sums_shown}
 use Rattle.pair_updates.specs.Pairs.{IsRealPair, pairs_of}
 use Rattle.pair_queue.specs.Skipping.{IsKnown, IsSpared, NoneIsSpared}
-use Rattle.pair_queue.specs.Tables.{flag, size}
+use Rattle.pair_queue.specs.Tables.{flag, member_count}
 use Rattle.pair_queue.proofs.skipping.skip_pair.Goals as goal
 
 pub count_due-count-requires-clause-within : goal.count_due-count-requires-clause-within
 count_due-count-requires-clause-within c =
     let m = c.args.leads.now in
     let real : Each (IsRealPair m) c.as_slice-pairs.result.now = subst (Each (IsRealPair m)) (sym c.as_slice-pairs.ensures) c.requires.real in
-    indices_of m (take c.args.kept c.as_slice-pairs.result.now) (size c.pass.new.due) (c.pass.ensures.due_size ∙ c.requires.due)
+    indices_of m (take c.args.kept c.as_slice-pairs.result.now) (member_count c.pass.new.due) (c.pass.ensures.due_size ∙ c.requires.due)
     (Each_take (IsRealPair m) c.args.kept c.as_slice-pairs.result.now real)
 
 pub returns-clause-real : goal.returns-clause-real

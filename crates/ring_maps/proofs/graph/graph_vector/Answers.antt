@@ -1,7 +1,7 @@
 use Rattle.std.proofs.Common.{ap₂, subst, sym, ◌++◌, ◌-◌, ◌<◌, ◌∙◌, ◌∷◌}
 use Rattle.formal_sums.proofs.Sameness.{IsSame_of, IsSame_trans}
 use Rattle.formal_sums.specs.FormalSums.{IsSame, Term}
-use Rattle.map_laws.specs.Graphs.{behind, variable}
+use Rattle.map_laws.specs.Graphs.{behind, variable_monomial}
 use Rattle.term_lists.specs.Rings.{variables}
 use Rattle.term_lists.specs.Vectors.{AreTermsOver, IsMonomialOver, sum_of}
 use Rattle.ring_maps.proofs.FirstTerms.{both_parts, each_back, each_front, first_among, multiple}
@@ -30,7 +30,7 @@ returns-clause-stands c =
     let m = variables graph in
     let p = graph.modulus.value in
     let r = ring.modulus.value - 1 in
-    let y : Term m = ((0, behind m n (variable n c.args.i)), 1) in
+    let y : Term m = ((0, behind m n (variable_monomial n c.args.i)), 1) in
     let a = c.split_at.result.0.now in
     let b = c.split_at.result.1.now in
     let none = c.in_ok-terms.terms.items in

@@ -1,9 +1,9 @@
 use Rattle.std.proofs.Common.{ap, arith, length, set, ◌<◌, ◌∙◌, ◌≡◌}
 use Rattle.std.proofs.lemmas.List.{length-set}
-use Rattle.dense_reduction.specs.Pivots.{row_at}
 use Rattle.row_reduce.proofs.Echelons.{taken_fit, taken_found, taken_kept, taken_none, taken_read}
 use Rattle.row_reduce.proofs.elimination.named_rows.Goals as goal
 use Rattle.row_reduce.proofs.elimination.named_rows.Goals.{in-Some+in_ok-push, in_default}
+use Rattle.row_matrix.specs.Rows.{shown_row_at}
 
 pub index_mut-requires : goal.index_mut-requires
 index_mut-requires c =
@@ -31,13 +31,13 @@ loop-past-preserved c =
                 ∙ taken_found R held past lt c.requires k w.in-Some.is rows found v.count v.kept w.replace.result v.found
                 (taken_read rows k w.replace.result w.index_mut.result.now w.replace.ensures.value w.index_mut.ensures.value);
             count = ap length same ∙ length-set rows k none ∙ v.count;
-            kept = λ j less. ap (λ xs. row_at xs j) same ∙ taken_kept R held past lt c.requires k w.in-Some.is rows found v.count v.kept none j less;
+            kept = λ j less. ap (λ xs. shown_row_at xs j) same ∙ taken_kept R held past lt c.requires k w.in-Some.is rows found v.count v.kept none j less;
           }
       | in_default w ↦
           let same : c.match-held-past.rows.items ≡ rows = ap (λ x. x.items) w.rows-is in
           record {
             found = ap (λ x. x.items) w.found-is ∙ taken_none R held past lt c.requires found v.found w.in_default.is;
             count = ap length same ∙ v.count;
-            kept = λ j less. ap (λ xs. row_at xs j) same ∙ v.kept j (omega arith);
+            kept = λ j less. ap (λ xs. shown_row_at xs j) same ∙ v.kept j (omega arith);
           }
     ]

@@ -1,10 +1,10 @@
 use Rattle.std.proofs.Common.{length, subst}
 use Rattle.std.proofs.lemmas.List.{get_or_default}
 use Rattle.pivot_table.specs.Law.{told}
-use Rattle.row_matrix.specs.Rows.{RowShown, first_column}
+use Rattle.row_matrix.specs.Rows.{RowShown, first_column, no_row}
 use Rattle.dense_reduction.proofs.Entries.{first_below}
 use Rattle.dense_reduction.proofs.Steps.{pivot_told}
-use Rattle.dense_reduction.specs.Pivots.{lead_column, no_row}
+use Rattle.dense_reduction.specs.Pivots.{lead_column}
 use Rattle.dense_reduction.specs.Reductions.{IsPivotFor}
 use Rattle.dense_reduction.specs.Rests.{rows_left}
 use Rattle.row_reduce.proofs.HelpedRows.{pivots_left}

@@ -9,7 +9,7 @@ use Rattle.basis_steps.specs.Criteria.{IsPair}
 use Rattle.basis_steps.specs.Divisions.{IsMonicMember}
 use Rattle.basis_steps.specs.States.{vectors}
 use Rattle.basis_core.proofs.Tracking.{vectors_over}
-use Rattle.basis_core.specs.Jobs.{HasLcmOfMembers, pair_of}
+use Rattle.basis_core.specs.Jobs.{HasLcmOfMembers, index_pair_of}
 use Rattle.basis_core.specs.Members.{members_of, setting_of}
 use Rattle.basis_core.specs.Rows.{vectors_in}
 use Rattle.s_vectors.proofs.Leaving.{first_steps}
@@ -29,7 +29,7 @@ pair_parts-requires-clause-monic c =
 
 pub pair_parts-requires-clause-real : goal.pair_parts-requires-clause-real
 pair_parts-requires-clause-real c =
-    subst (λ (r : Ring). IsPair (vectors (members_of (variables r) c.args.members.now.list)) (pair_of c.args.pair.now)) (sym c.requires.over) c.requires.pair.real
+    subst (λ (r : Ring). IsPair (vectors (members_of (variables r) c.args.members.now.list)) (index_pair_of c.args.pair.now)) (sym c.requires.over) c.requires.pair.real
 
 pub pair_parts-requires-clause-lcm : goal.pair_parts-requires-clause-lcm
 pair_parts-requires-clause-lcm c =

@@ -2,10 +2,10 @@ use Rattle.std.proofs.Common.{[], subst, sym, ◌∙◌, ◌∷◌, ◌≡◌}
 use Rattle.formal_sums.specs.FormalSums.{Each}
 use Rattle.monomial_orders.specs.Kept.{IsWeighed}
 use Rattle.term_lists.specs.Rings.{variables}
-use Rattle.basis_core.specs.Jobs.{pair_of}
+use Rattle.basis_core.specs.Jobs.{index_pair_of}
 use Rattle.basis_steps.specs.States.{vectors}
 use Rattle.basis_core.specs.Members.{members_of, setting_of}
-use Rattle.basis_core.specs.Outcomes.{products_of}
+use Rattle.basis_core.specs.Outcomes.{indexed_products_of}
 use Rattle.s_vectors.proofs.Lists.{empty_list}
 use Rattle.s_vectors.proofs.Solved.{solved_zero}
 use Rattle.s_vectors.specs.Divided.{IsDivided}
@@ -23,7 +23,7 @@ returns-then-is_empty c =
       over = tt;
       weighed = subst (Each (λ t. IsWeighed n m.shared.ring.weights t.1)) (sym c.in_ok-without_residues.ensures) d.products.weighed;
       solved =
-          subst (λ ts. IsSolved (setting_of n m.shared) (vectors (members_of n m.list)) (pair_of x ∷ []) [] (products_of n ts))
+          subst (λ ts. IsSolved (setting_of n m.shared) (vectors (members_of n m.list)) (index_pair_of x ∷ []) [] (indexed_products_of n ts))
           (sym c.in_ok-without_residues.ensures)
           (solved_zero m x c.requires.pair c.kept.ensures c.args.parts.items d);
     }

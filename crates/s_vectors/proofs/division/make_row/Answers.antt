@@ -8,9 +8,9 @@ use Rattle.member_products.specs.Generators.{IsVectorOf}
 use Rattle.vector_division.specs.Reductions.{cofactors_of}
 use Rattle.vector_division.specs.declared.reduction.ScaledProduct.{ScaledProduct}
 use Rattle.basis_steps.specs.States.{vectors}
-use Rattle.basis_core.specs.Jobs.{pair_of}
-use Rattle.basis_core.specs.Members.{members_of, row_of, setting_of}
-use Rattle.basis_core.specs.Outcomes.{products_of}
+use Rattle.basis_core.specs.Jobs.{index_pair_of}
+use Rattle.basis_core.specs.Members.{members_of, reduct_row_of, setting_of}
+use Rattle.basis_core.specs.Outcomes.{indexed_products_of}
 use Rattle.s_vectors.proofs.Listed.{divided_ranked, part_terms, row_ranked}
 use Rattle.s_vectors.proofs.Solved.{solved_row}
 use Rattle.s_vectors.specs.Solutions.{IsSolved}
@@ -38,6 +38,6 @@ returns c =
       over = (record { vector = divided_ranked m x parts c.args.vector c.kept.ensures d; products = row_ranked m.shared parts products iv same (length m.list) d.each }, tt);
       weighed = subst (Each (λ t. IsWeighed n m.shared.ring.weights t.1)) (sym c.in_ok-without_residues.ensures) d.products.weighed;
       solved =
-          subst (λ ts. IsSolved (setting_of n m.shared) (vectors (members_of n m.list)) (pair_of x ∷ []) (row_of n (record { vector = c.args.vector; products = products }) ∷ []) (products_of n ts)) (sym c.in_ok-without_residues.ensures)
+          subst (λ ts. IsSolved (setting_of n m.shared) (vectors (members_of n m.list)) (index_pair_of x ∷ []) (reduct_row_of n (record { vector = c.args.vector; products = products }) ∷ []) (indexed_products_of n ts)) (sym c.in_ok-without_residues.ensures)
           (solved_row m x c.requires.pair c.kept.ensures parts c.args.vector products d c.requires.some iv same);
     }

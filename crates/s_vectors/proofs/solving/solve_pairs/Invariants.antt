@@ -4,8 +4,8 @@ use Rattle.monomial_orders.specs.Kept.{IsWeighed}
 use Rattle.term_lists.specs.Rings.{variables}
 use Rattle.basis_steps.specs.States.{vectors}
 use Rattle.basis_core.specs.Jobs.{pairs_of}
-use Rattle.basis_core.specs.Members.{IsRunRow, members_of, rows_of, setting_of}
-use Rattle.basis_core.specs.Outcomes.{products_of}
+use Rattle.basis_core.specs.Members.{IsRunRow, members_of, reduct_rows_of, setting_of}
+use Rattle.basis_core.specs.Outcomes.{indexed_products_of}
 use Rattle.s_vectors.specs.Solutions.{IsSolved}
 use Rattle.s_vectors.proofs.solving.solve_pairs.Given as goal
 
@@ -17,5 +17,5 @@ invariant-loop-number l =
       weighed : Each (λ t. IsWeighed n l.job.shared.ring.weights t.1) l.solution.products.items;
       solved :
           IsSolved (setting_of n l.job.shared) (vectors (members_of n l.job.members)) (pairs_of (take l.number l.job.pairs))
-          (rows_of n l.solution.rows.items) (products_of n l.solution.products.items);
+          (reduct_rows_of n l.solution.rows.items) (indexed_products_of n l.solution.products.items);
     }

@@ -4,7 +4,7 @@ use Rattle.formal_sums.specs.FormalSums.{FormalSum, IsSame}
 use Rattle.term_lists.specs.Rings.{ring_comparison, variables}
 use Rattle.term_lists.specs.Vectors.{IsVectorOver, sum_of}
 use Rattle.term_lists.specs.declared.key.Key.{Key as CodeKey}
-use Rattle.module_vectors.specs.Products.{AreProducts, sum_of_products}
+use Rattle.module_vectors.specs.Products.{AreProducts, sum_of_product_list}
 use Rattle.std.proofs.Common.{List, map, sym, ℕ}
 use Rattle.vector_division.specs.Reductions.{term_of}
 use Rattle.s_vectors.specs.Parts.{GreatStops, PartsStop}
@@ -30,7 +30,7 @@ returns-clause-sum g c =
     let n : ℕ = variables ring in
     let list : List (List (CodeKey × ℕ)) = g.L.Vectors.listed c.args.list.now in
     subst (λ (f : FormalSum n). IfOk c.sum_products.result (λ v. IsSame ring.modulus.value (sum_of n v) f))
-    (ap (sum_of_products n) c.deref.ensures.value
+    (ap (sum_of_product_list n) c.deref.ensures.value
     ∙ parts_combination list n ring.weights ring.modulus.value c.args.parts.now c.in_ok-products.products.items c.requires.parts c.in_ok-products.ensures)
     c.sum_products.ensures.sum
 

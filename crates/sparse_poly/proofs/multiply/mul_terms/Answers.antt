@@ -2,7 +2,7 @@ use Rattle.std.proofs.Common.{ap, subst, ◌∙◌}
 use Rattle.formal_sums.specs.FormalSums.{product}
 use Rattle.term_lists.specs.Rings.{variables}
 use Rattle.term_lists.specs.Vectors.{IsVectorOver, StandsFor, sum_of}
-use Rattle.module_vectors.specs.Products.{sum_of_products}
+use Rattle.module_vectors.specs.Products.{sum_of_product_list}
 use Rattle.module_vectors.specs.ProductStops.{ProductsFit, ProductsStop}
 use Rattle.sparse_poly.proofs.Multiplying.{multiples_factors, multiples_fit, multiples_stop, multiples_sum, multiples_vectors}
 use Rattle.sparse_poly.proofs.Results.{each_err, each_ok}
@@ -24,7 +24,7 @@ returns-in-Ok-clause-product g c =
     let n = variables ring in
     let sums = multiples_sum n c.args.b.now c.terms.result.now c.in-Ok.products.items c.in-Ok.ensures in
     each_ok _ (λ v. StandsFor ring v (product (sum_of n c.args.a.now) (sum_of n c.args.b.now))) c.sum_of_products_in.result
-    (λ v h. subst (λ w. StandsFor ring v w) (ap (sum_of_products n) c.deref.ensures.value ∙ sums ∙ ap (λ a. product (sum_of n a) (sum_of n c.args.b.now)) c.terms.ensures) h)
+    (λ v h. subst (λ w. StandsFor ring v w) (ap (sum_of_product_list n) c.deref.ensures.value ∙ sums ∙ ap (λ a. product (sum_of n a) (sum_of n c.args.b.now)) c.terms.ensures) h)
     c.sum_of_products_in.ensures.sum
 
 pub returns-in-Ok-clause-fits : goal.returns-in-Ok-clause-fits

@@ -5,7 +5,7 @@ use Rattle.term_lists.specs.Vectors.{AreTermsOver, StandsFor, sum_of}
 use Rattle.zp_field.proofs.TableFields.{is_modulus-domain}
 use Rattle.sparse_poly.proofs.DigitPowers.{prime_same, terms_within}
 use Rattle.sparse_poly.proofs.Results.{each_ok}
-use Rattle.sparse_poly.specs.Powers.{power}
+use Rattle.sparse_poly.specs.Powers.{polynomial_power}
 use Rattle.sparse_poly.proofs.prime_power.prime_power.Goals as goal
 
 pub raised_terms-requires-clause-terms : goal.raised_terms-requires-clause-terms
@@ -23,6 +23,6 @@ pub returns-clause-power : goal.returns-clause-power
 returns-clause-power g c =
     let ring = g.F.Frame.over c.args.frame.now in
     let domain = is_modulus-domain ring.modulus.value ring.modulus.table in
-    each_ok _ (λ u. StandsFor ring u (power (sum_of (variables ring) c.args.v.now) ring.modulus.value)) c.from_terms.result
+    each_ok _ (λ u. StandsFor ring u (polynomial_power (sum_of (variables ring) c.args.v.now) ring.modulus.value)) c.from_terms.result
     (λ u h. IsSame_trans h (prime_same ring c.ring-ring.result.now c.in_ok-terms.terms.items c.terms.result.now c.args.v.now c.ring-ring.ensures c.terms.ensures domain c.requires.polynomial c.in_ok-terms.ensures.raised))
     c.from_terms.ensures.same

@@ -1,5 +1,5 @@
 use Rattle.std.proofs.Common.{ap, subst, sym, ◌≡◌}
-use Rattle.f4_engine.specs.Engines.{F4Shown, with_run}
+use Rattle.f4_engine.specs.Engines.{F4Shown, f4_with_run}
 use Rattle.f4_engine.proofs.engine.F4Engine.count_run.Goals as goal
 
 pub returns : goal.returns
@@ -14,5 +14,5 @@ returns c =
       state = c.self.inside.state;
       trail = c.self.inside.trail;
       last = c.self.inside.last;
-    }) (with_run c.args.self.now))
-    (sym c.saturating_add-self-inside.ensures) (ap with_run c.self.view_is)
+    }) (f4_with_run c.args.self.now))
+    (sym c.saturating_add-self-inside.ensures) (ap f4_with_run c.self.view_is)

@@ -5,7 +5,7 @@ use Rattle.monomial_orders.proofs.Filling.{filled_at, filled_by, kept_at, kept_b
 use Rattle.monomial_orders.proofs.PlaceByPlace.{maxima_monomial}
 use Rattle.monomial_orders.specs.Kept.{IsWeighed, Monomial}
 use Rattle.monomial_orders.specs.Monomials.{IsPlaceByPlace}
-use Rattle.monomial_orders.specs.Storage.{IsFilled, monomial_of, places_of, variables_of}
+use Rattle.monomial_orders.specs.Storage.{IsFilled, monomial_of, places_of, stored_variables}
 use Rattle.monomial_orders.proofs.mono.Mono.lcm.Goals as goal
 
 pub maxima-requires-clause-left : goal.maxima-requires-clause-left
@@ -33,7 +33,7 @@ keep-requires c =
     let n = length c.args.a.now.exponents in
     let d = c.degree_of-degree.result in
     let small : d < 4294967296 = omega arith in
-    let counted = subst (λ n. variables_of u ≡ n) c.variables-n.ensures c.in_ok-stored.ensures.variables in
+    let counted = subst (λ n. stored_variables u ≡ n) c.variables-n.ensures c.in_ok-stored.ensures.variables in
     kept_at n d u counted
     (kept_by max c.args.a.now c.args.b.now c.kept.result.now c.kept-2.result.now u d refl c.requires.variables
     c.kept.ensures c.kept-2.ensures c.in_ok-stored.ensures.places counted c.in_ok-stored.ensures.bounded c.degree_of-degree.ensures.held

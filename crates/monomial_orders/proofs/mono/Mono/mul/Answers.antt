@@ -5,7 +5,7 @@ use Rattle.monomial_orders.proofs.Over.{over_times, sums_held}
 use Rattle.monomial_orders.proofs.PlaceByPlace.{sums_monomial}
 use Rattle.monomial_orders.specs.Kept.{Monomial}
 use Rattle.monomial_orders.specs.Monomials.{IsMonomial, IsPlaceByPlace}
-use Rattle.monomial_orders.specs.Storage.{IsFilled, monomial_of, places_of, variables_of}
+use Rattle.monomial_orders.specs.Storage.{IsFilled, monomial_of, places_of, stored_variables}
 use Rattle.monomial_orders.proofs.mono.Mono.mul.Goals as goal
 
 pub sums-requires-clause-left : goal.sums-requires-clause-left
@@ -34,7 +34,7 @@ keep-requires c =
     let held =
     sums_held (places_of s) (places_of t) (places_of u) a.degree b.degree c.in_ok-stored.ensures.places
     c.kept.ensures.kept.held c.kept-2.ensures.kept.held in
-    let counted = subst (λ n. variables_of u ≡ n) c.variables.ensures c.in_ok-stored.ensures.variables in
+    let counted = subst (λ n. stored_variables u ≡ n) c.variables.ensures c.in_ok-stored.ensures.variables in
     kept_at (length a.exponents) total u counted
     (kept_by ◌+◌ a b s t u total refl c.requires.variables c.kept.ensures c.kept-2.ensures c.in_ok-stored.ensures.places counted
     c.in_ok-stored.ensures.bounded (λ k. omega (arith, held k, d)) small)

@@ -5,7 +5,7 @@ use Rattle.monomial_orders.proofs.Over.{divisor_degree, over_quotient, quotient_
 use Rattle.monomial_orders.proofs.PlaceByPlace.{differences_cofactor}
 use Rattle.monomial_orders.specs.Kept.{HaveCommonWeights, Monomial}
 use Rattle.monomial_orders.specs.Monomials.{IsCofactor, IsPlaceByPlace}
-use Rattle.monomial_orders.specs.Storage.{IsFilled, IsKept, IsStored, monomial_of, places_of, variables_of}
+use Rattle.monomial_orders.specs.Storage.{IsFilled, IsKept, IsStored, monomial_of, places_of, stored_variables}
 use Rattle.monomial_orders.specs.declared.storage.Stored.{Stored}
 use Rattle.monomial_orders.proofs.mono.Mono.quotient.Goals as goal
 
@@ -36,7 +36,7 @@ record Differs (a b : Monomial) (s t u : Stored) : Type 0 where
   left : IsStored a s
   right : IsStored b t
   divides : (k : ℕ) → k < length b.exponents → get_or b.exponents k 0 ≤ get_or a.exponents k 0
-  counted : variables_of u ≡ length a.exponents
+  counted : stored_variables u ≡ length a.exponents
   places : IsPlaceByPlace ◌-◌ (places_of s) (places_of t) (places_of u)
   bounded : (k : ℕ) → get_or (places_of u) k 0 < 65536
 
@@ -64,7 +64,7 @@ kept a b s t u h =
 differs :
     (a b : Monomial) (s t u : Stored) (n : ℕ) → length a.exponents ≡ length b.exponents → HaveCommonWeights (length a.exponents) a b
     → IsStored a s → IsStored b t → ((k : ℕ) → k < length b.exponents → get_or b.exponents k 0 ≤ get_or a.exponents k 0)
-    → n ≡ length a.exponents → variables_of u ≡ n → IsPlaceByPlace ◌-◌ (places_of s) (places_of t) (places_of u)
+    → n ≡ length a.exponents → stored_variables u ≡ n → IsPlaceByPlace ◌-◌ (places_of s) (places_of t) (places_of u)
     → ((k : ℕ) → get_or (places_of u) k 0 < 65536) → Differs a b s t u
 differs a b s t u n e w hs ht d q counted places bounded = record {
   variables = e;
@@ -72,7 +72,7 @@ differs a b s t u n e w hs ht d q counted places bounded = record {
   left = hs;
   right = ht;
   divides = d;
-  counted = subst (λ n. variables_of u ≡ n) q counted;
+  counted = subst (λ n. stored_variables u ≡ n) q counted;
   places = places;
   bounded = bounded;
 }
@@ -95,13 +95,13 @@ keep-requires c =
     let u = c.in_ok-stored.stored in
     let h = differs a b c.kept.result.now c.kept-2.result.now u c.variables.result c.requires.variables c.requires.weights c.kept.ensures c.kept-2.ensures
     (c.divides.ensures.places.0 yes) c.variables.ensures c.in_ok-stored.ensures.variables c.in_ok-stored.ensures.places c.in_ok-stored.ensures.bounded in
-    subst (λ d. IsKept (variables_of u) d u) (sym (ap₂ ◌-◌ c.degree.ensures.value c.degree-2.ensures.value))
+    subst (λ d. IsKept (stored_variables u) d u) (sym (ap₂ ◌-◌ c.degree.ensures.value c.degree-2.ensures.value))
     (kept_at (length a.exponents) (a.degree - b.degree) u h.counted (kept a b c.kept.result.now c.kept-2.result.now u h))
 
 -- how the answer is shown
 shown :
     (a b : Monomial) (s t u : Stored) (d e : ℕ) (m : Monomial) → Differs a b s t u → d ≡ a.degree → e ≡ b.degree
-    → m ≡ monomial_of (variables_of u) (d - e) u
+    → m ≡ monomial_of (stored_variables u) (d - e) u
     → IsCofactor (length a.exponents) a.exponents b.exponents m.exponents × (m.degree ≡ a.degree - b.degree)
 shown a b s t u d e m h p q r =
     let n = length a.exponents in

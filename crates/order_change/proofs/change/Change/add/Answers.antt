@@ -8,9 +8,9 @@ use Rattle.order_change.proofs.Borders.{behind}
 use Rattle.order_change.proofs.Items.{length_monomials}
 use Rattle.order_change.proofs.Stepping.{rest_is}
 use Rattle.order_change.specs.Forms.{AreResidues}
-use Rattle.order_change.specs.Lists.{monomials}
 use Rattle.order_change.specs.Rows.{AreRows}
 use Rattle.order_change.specs.declared.rows.Row.{Row}
+use Rattle.monomial_orders.specs.Kept.{monomials}
 use Rattle.order_change.proofs.change.Change.add.Goals as goal
 
 pub rest_of-requires : goal.rest_of-requires

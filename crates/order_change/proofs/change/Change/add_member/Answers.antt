@@ -11,7 +11,8 @@ use Rattle.order_change.proofs.Items.{length_monomials}
 use Rattle.order_change.proofs.Stepping.{rest_member, zero_row}
 use Rattle.order_change.specs.Changing.{AreNewMembers}
 use Rattle.order_change.specs.Forms.{AreResidues}
-use Rattle.order_change.specs.Lists.{AreMonomials, monomials}
+use Rattle.order_change.specs.Lists.{AreMonomials}
+use Rattle.monomial_orders.specs.Kept.{monomials}
 use Rattle.order_change.proofs.change.Change.add_member.Goals as goal
 
 at_least_none : (n : ℕ) → 0 ≤ n

@@ -9,8 +9,8 @@ use Rattle.term_lists.specs.Vectors.{sums_of}
 use Rattle.order_change.proofs.Adding.{members_kept, standard_added}
 use Rattle.order_change.proofs.Items.{monomials_push}
 use Rattle.order_change.specs.Changing.{AreNewMembers, AreNewStandard}
-use Rattle.order_change.specs.Lists.{monomials}
 use Rattle.order_change.specs.declared.rows.Row.{Row}
+use Rattle.monomial_orders.specs.Kept.{monomials}
 use Rattle.order_change.proofs.change.Change.add_standard.Goals as goal
 
 pub returns : goal.returns

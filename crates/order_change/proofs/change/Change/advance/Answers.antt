@@ -9,8 +9,9 @@ use Rattle.order_change.proofs.Adding.{few}
 use Rattle.order_change.proofs.Filling.{sum_below}
 use Rattle.order_change.proofs.Items.{length_monomials}
 use Rattle.order_change.proofs.Stepping.{candidate_next, few_room, new_or_not, turns_added, turns_over}
-use Rattle.order_change.specs.Lists.{IsNew, monomials}
+use Rattle.order_change.specs.Lists.{IsNew}
 use Rattle.order_change.specs.Products.{HadAllItems, HaveRoom, IsCandidate, IsLeast}
+use Rattle.monomial_orders.specs.Kept.{monomials}
 use Rattle.order_change.proofs.change.Change.advance.Goals as goal
 
 pub least_product-requires-clause-room : goal.least_product-requires-clause-room

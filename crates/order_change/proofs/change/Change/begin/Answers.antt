@@ -1,10 +1,9 @@
 use Rattle.std.proofs.Common.{length, subst, sym}
-use Rattle.monomial_orders.specs.Kept.{IsWeighed}
+use Rattle.monomial_orders.specs.Kept.{IsWeighed, monomials}
 use Rattle.term_lists.specs.Vectors.{sums_of}
 use Rattle.order_change.proofs.Items.{unit_by}
 use Rattle.order_change.proofs.Stepping.{first_next, first_turns, nothing_known}
 use Rattle.order_change.specs.Changing.{IsFormModulo}
-use Rattle.order_change.specs.Lists.{monomials}
 use Rattle.order_change.proofs.change.Change.begin.Goals as goal
 
 pub add-requires-clause-known : goal.add-requires-clause-known

@@ -6,7 +6,7 @@ use Rattle.order_change.proofs.Borders.{IsProductWhere}
 use Rattle.order_change.proofs.Filling.{item_read}
 use Rattle.order_change.proofs.Stepping.{variable_covered, variable_form, variable_rows}
 use Rattle.order_change.specs.Forms.{AreResidues, IsRowForm, monomial_vector}
-use Rattle.order_change.specs.Lists.{monomials}
+use Rattle.monomial_orders.specs.Kept.{monomials}
 use Rattle.order_change.proofs.change.Change.take.Goals as goal
 
 pub times_variable-requires : goal.times_variable-requires

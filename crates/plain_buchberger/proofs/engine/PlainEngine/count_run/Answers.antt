@@ -1,5 +1,5 @@
 use Rattle.std.proofs.Common.{ap, subst, sym, ◌≡◌}
-use Rattle.plain_buchberger.specs.Engines.{PlainShown, with_run}
+use Rattle.plain_buchberger.specs.Engines.{PlainShown, plain_with_run}
 use Rattle.plain_buchberger.proofs.engine.PlainEngine.count_run.Goals as goal
 
 pub returns : goal.returns
@@ -11,5 +11,5 @@ returns c =
       stops = c.self.inside.stops;
       state = c.self.inside.state;
       trail = c.self.inside.trail;
-    }) (with_run c.args.self.now))
-    (sym c.saturating_add-self-inside.ensures) (ap with_run c.self.view_is)
+    }) (plain_with_run c.args.self.now))
+    (sym c.saturating_add-self-inside.ensures) (ap plain_with_run c.self.view_is)
