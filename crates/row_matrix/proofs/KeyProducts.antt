@@ -11,7 +11,8 @@ use Rattle.monomial_orders.specs.Kept.{IsWeighed, Monomial}
 use Rattle.monomial_orders.specs.Monomials.{IsMonomial, IsPlaceByPlace}
 use Rattle.term_lists.specs.Vectors.{key_of}
 use Rattle.term_lists.specs.declared.key.Key.{Key}
-use Rattle.row_matrix.specs.Hashes.{factor_hash, hash_of, hash_step, key_product, sums}
+use Rattle.row_matrix.proofs.Digits.{for_bases}
+use Rattle.row_matrix.specs.Hashes.{digit_base, factor_hash, hash_behind, hash_of, hash_step, key_product, sums}
 
 pub length_sums : (xs ys : List ℕ) → length xs ≡ length ys → length (sums xs ys) ≡ length xs
 length_sums xs ys e = length-zip2 (λ a b. a + b) xs ys e
@@ -30,27 +31,41 @@ sums_by_places xs ys zs e l h =
 
 -- hashes add up place by place
 step_sum :
-    (a b c x y : ℕ) → c % 2 ^ 64 ≡ (a + b) % 2 ^ 64
-    → hash_step c (x + y) ≡ (hash_step a x + hash_step b y) % 2 ^ 64
-step_sum a b c x y e = omega (arith, e)
+    (n a b c x y : ℕ) → c % 2 ^ 64 ≡ (a + b) % 2 ^ 64
+    → hash_step (digit_base n) c (x + y) ≡ (hash_step (digit_base n) a x + hash_step (digit_base n) b y) % 2 ^ 64
+step_sum n a b c x y e =
+    for_bases (λ m. hash_step m c (x + y) ≡ (hash_step m a x + hash_step m b y) % 2 ^ 64) (omega (arith, e)) (omega (arith, e)) n
 
 digits_sum :
-    (a b c : ℕ) (xs ys : List ℕ) → length xs ≡ length ys → c ≡ (a + b) % 2 ^ 64
-    → fold hash_step c (sums xs ys) ≡ (fold hash_step a xs + fold hash_step b ys) % 2 ^ 64
-digits_sum a b c [] [] e s = s
-digits_sum a b c [] (y ∷ ys) e s = absurd (omega arith)
-digits_sum a b c (x ∷ xs) [] e s = absurd (omega arith)
-digits_sum a b c (x ∷ xs) (y ∷ ys) e s =
-    digits_sum (hash_step a x) (hash_step b y) (hash_step c (x + y)) xs ys (omega (arith, e)) (step_sum a b c x y (omega (arith, s)))
+    (n a b c : ℕ) (xs ys : List ℕ) → length xs ≡ length ys → c ≡ (a + b) % 2 ^ 64
+    → (let step = hash_step (digit_base n) in fold step c (sums xs ys) ≡ (fold step a xs + fold step b ys) % 2 ^ 64)
+digits_sum n a b c [] [] e s = s
+digits_sum n a b c [] (y ∷ ys) e s = absurd (omega arith)
+digits_sum n a b c (x ∷ xs) [] e s = absurd (omega arith)
+digits_sum n a b c (x ∷ xs) (y ∷ ys) e s =
+    let step = hash_step (digit_base n) in
+    digits_sum n (step a x) (step b y) (step c (x + y)) xs ys (omega (arith, e)) (step_sum n a b c x y (omega (arith, s)))
 
 behind_position :
-    (p : ℕ) (xs ys : List ℕ) → length xs ≡ length ys → fold hash_step p ys < 2 ^ 64
-    → fold hash_step p (sums xs ys) ≡ (fold hash_step 0 xs + fold hash_step p ys) % 2 ^ 64
-behind_position p [] [] e lt = let small : p < 2 ^ 64 = lt in let z : p ≡ (0 + p) % 2 ^ 64 = omega (arith, small) in z
-behind_position p [] (y ∷ ys) e lt = absurd (omega arith)
-behind_position p (x ∷ xs) [] e lt = absurd (omega arith)
-behind_position p (x ∷ xs) (y ∷ ys) e lt =
-    digits_sum (hash_step 0 x) (hash_step p y) (hash_step p (x + y)) xs ys (omega (arith, e)) (step_sum 0 p p x y (omega arith))
+    (n p : ℕ) (xs ys : List ℕ) → length xs ≡ length ys
+    → (let step = hash_step (digit_base n) in fold step p ys < 2 ^ 64 → fold step p (sums xs ys) ≡ (fold step 0 xs + fold step p ys) % 2 ^ 64)
+behind_position n p [] [] e lt = let small : p < 2 ^ 64 = lt in let z : p ≡ (0 + p) % 2 ^ 64 = omega (arith, small) in z
+behind_position n p [] (y ∷ ys) e lt = absurd (omega arith)
+behind_position n p (x ∷ xs) [] e lt = absurd (omega arith)
+behind_position n p (x ∷ xs) (y ∷ ys) e lt =
+    let step = hash_step (digit_base n) in
+    digits_sum n (step 0 x) (step p y) (step p (x + y)) xs ys (omega (arith, e)) (step_sum n 0 p p x y (omega arith))
+
+-- exponents of as many variables are digits to the same base
+behind_sums :
+    (p : ℕ) (xs ys : List ℕ) → length xs ≡ length ys → hash_behind p ys < 2 ^ 64
+    → hash_behind p (sums xs ys) ≡ (hash_behind 0 xs + hash_behind p ys) % 2 ^ 64
+behind_sums p xs ys e lt =
+    let zs = sums xs ys in
+    let step : ℕ → ℕ → ℕ → ℕ = λ j. hash_step (digit_base j) in
+    let wide : length zs ≡ length ys = length_sums xs ys e ∙ e in
+    ap (λ j. fold (step j) p zs) wide ∙ behind_position (length ys) p xs ys e lt
+    ∙ ap (λ j. (fold (step j) 0 xs + hash_behind p ys) % 2 ^ 64) (sym e)
 
 -- the hash of a product is the sum of the key's and what the monomial adds, in 64 bits
 pub hash_sum :
@@ -58,7 +73,7 @@ pub hash_sum :
     → hash ≡ hash_of key → hash < 2 ^ 64 → (hash + added) % 2 ^ 64 ≡ hash_of (key_product t key)
 hash_sum t key added hash e a h lt =
     let base : hash_of (key_product t key) ≡ (factor_hash t + hash_of key) % 2 ^ 64 =
-    behind_position key.position t.exponents key.monomial.exponents e (subst (λ x. x < 2 ^ 64) h lt) in
+    behind_sums key.position t.exponents key.monomial.exponents e (subst (λ x. x < 2 ^ 64) h lt) in
     let same : hash + added ≡ factor_hash t + hash_of key = omega (arith, a, h) in
     ap (λ x. x % 2 ^ 64) same ∙ sym base
 

@@ -9,9 +9,9 @@ use Rattle.monomials.specs.Weights.{weighted_degree}
 use Rattle.monomial_orders.specs.Kept.{IsWeighed, Monomial}
 use Rattle.term_lists.proofs.Scaling.{Each_at, Each_more}
 use Rattle.term_lists.specs.declared.key.Key.{Key}
-use Rattle.row_matrix.proofs.Digits.{digits_same, fits_below, sums_few}
+use Rattle.row_matrix.proofs.Digits.{base_small, digits_same, fits_below, sums_few}
 use Rattle.row_matrix.proofs.KeyProducts.{key_product_weighed, length_sums}
-use Rattle.row_matrix.specs.Hashes.{IsNumbered, key_product, no_key}
+use Rattle.row_matrix.specs.Hashes.{IsNumbered, digit_base, key_product, no_key, sums}
 use Rattle.row_matrix.specs.Rows.{AreKeys}
 use Rattle.row_matrix.specs.Told.{AreTold, AreToldWith, FitsDigits, HashesShown, IsToldKey, IsKeyUpTo, TellsProduct}
 
@@ -20,10 +20,13 @@ product_told :
     (keys : List Key) (t : Monomial) (h : HashesShown) (key : Key) → length key.monomial.exponents ≡ length t.exponents
     → AreToldWith keys t h → IsKeyUpTo h.position h.degree key → IsToldKey (key_product t key)
 product_told keys t h key sized a u = (
-  subst (λ n. FitsDigits n key.position) (sym (length_sums t.exponents key.monomial.exponents (sym sized)))
-      (fits_below (length t.exponents) key.position h.position u.place a.position),
-  sums_few t.degree h.degree t.exponents key.monomial.exponents a.exponents u.exponents a.degree,
+  subst (λ n. FitsDigits n key.position) same (fits_below (length t.exponents) key.position h.position u.place a.position),
+  sums_few (digit_base (length (sums t.exponents key.monomial.exponents))) t.degree h.degree t.exponents key.monomial.exponents a.exponents u.exponents
+      (subst (λ n. t.degree + h.degree < digit_base n) same a.degree),
 )
+  where
+    same : length t.exponents ≡ length (sums t.exponents key.monomial.exponents)
+    same = sym (length_sums t.exponents key.monomial.exponents (sym sized))
 
 -- keys with the same exponents have the same degree by the weights
 same_key :
@@ -51,7 +54,7 @@ tells_product n ws keys t h key a u wt wk known =
           let sized : length k.monomial.exponents ≡ length product.monomial.exponents = over.variables ∙ sym weighed.variables in
           let both = digits_same k.position product.position k.monomial.exponents product.monomial.exponents mine.0 told.0 sized mine.1 told.1 same in
           same_key n ws k product over weighed both.0 both.1;
-      small = omega (arith, u.few, a.degree);
+      small = omega (arith, u.few, a.degree, base_small (length t.exponents));
     }
 
 pub tells_products :

@@ -1,5 +1,5 @@
 -- Keys that are found by their hashes
-use Rattle.std.specs.Prelude.{List, [], fold, get_or, length, map, ℕ, ◌%◌, ◌*◌, ◌+◌, ◌++◌, ◌-◌, ◌/◌, ◌<◌, ◌∷◌, ◌^◌, ◌≡◌, ◌≤◌, ◌⊎◌}
+use Rattle.std.specs.Prelude.{List, [], cond, fold, get_or, length, ltb, map, ℕ, ◌%◌, ◌&&◌, ◌*◌, ◌+◌, ◌++◌, ◌-◌, ◌/◌, ◌<◌, ◌∷◌, ◌^◌, ◌≡◌, ◌≤◌, ◌⊎◌}
 use Rattle.std.specs.Simd.Lanes.{zip2}
 use Rattle.monomial_orders.specs.Kept.{Monomial}
 use Rattle.term_lists.specs.declared.key.Key.{Key}
@@ -19,17 +19,25 @@ key_product t key = record {
   monomial = record { exponents = sums t.exponents key.monomial.exponents; degree = t.degree + key.monomial.degree };
 }
 
--- one exponent after another, as digits
-abbrev pub hash_step : ℕ → ℕ → ℕ
-hash_step hash exponent = ((hash * 31) % 2 ^ 64 + exponent) % 2 ^ 64
+-- to which base exponents are hashed as digits, in so many variables: with 13 to 15 of them 7, whose digits have 3 bits, else 31
+unfoldable pub digit_base : ℕ → ℕ
+digit_base n = cond (ltb 12 n && ltb n 16) 7 31
+
+-- one exponent after another, as digits to a base
+abbrev pub hash_step : ℕ → ℕ → ℕ → ℕ
+hash_step base hash exponent = ((hash * base) % 2 ^ 64 + exponent) % 2 ^ 64
+
+-- exponents as digits behind a number
+abbrev pub hash_behind : ℕ → List ℕ → ℕ
+hash_behind start exponents = fold (hash_step (digit_base (length exponents))) start exponents
 
 -- the hash of a key
 abbrev pub hash_of : Key → ℕ
-hash_of key = fold hash_step key.position key.monomial.exponents
+hash_of key = hash_behind key.position key.monomial.exponents
 
 -- what a monomial adds to the hash of a key that it multiplies
 abbrev pub factor_hash : Monomial → ℕ
-factor_hash t = fold hash_step 0 t.exponents
+factor_hash t = hash_behind 0 t.exponents
 
 -- the hashes of the keys of terms
 abbrev pub term_hashes : List (Key × ℕ) → List ℕ

@@ -3,7 +3,7 @@ use Rattle.std.specs.Prelude.{List, get_or, length, ℕ, ◌*◌, ◌+◌, ◌<�
 use Rattle.formal_sums.specs.FormalSums.{Each}
 use Rattle.monomial_orders.specs.Kept.{Monomial}
 use Rattle.term_lists.specs.declared.key.Key.{Key}
-use Rattle.row_matrix.specs.Hashes.{hash_of, key_product, no_key, term_hashes}
+use Rattle.row_matrix.specs.Hashes.{digit_base, hash_of, key_product, no_key, term_hashes}
 
 -- what contracts see of the hashes of terms: the hashes, and a position and a degree that none of the keys is above
 pub record HashesShown : Type 0 where
@@ -22,13 +22,13 @@ pub record AreHashesOf (h : HashesShown) (v : List (Key × ℕ)) : Type 0 where
   pub hashes : h.hashes ≡ term_hashes v
   pub bounded : Each (λ u. IsKeyUpTo h.position h.degree u.0) v
 
--- so many digits to base 31 behind the position are a number of 64 bits
+-- the digits of so many exponents behind the position are a number of 64 bits
 abbrev pub FitsDigits : ℕ → ℕ → Type 0
-FitsDigits n position = (position + 1) * 31 ^ n ≤ 2 ^ 64
+FitsDigits n position = (position + 1) * digit_base n ^ n ≤ 2 ^ 64
 
 -- among keys in as many variables the hash tells this one: its position and exponents are the digits of a number of 64 bits
 abbrev pub IsToldKey : Key → Type 0
-IsToldKey key = FitsDigits (length key.monomial.exponents) key.position × Each (λ x. x < 31) key.monomial.exponents
+IsToldKey key = let n = length key.monomial.exponents in FitsDigits n key.position × Each (λ x. x < digit_base n) key.monomial.exponents
 
 -- they are such keys
 abbrev pub AreTold : List Key → Type 0
@@ -38,7 +38,7 @@ AreTold keys = Each IsToldKey keys
 pub record AreToldWith (keys : List Key) (t : Monomial) (h : HashesShown) : Type 0 where
   pub told : AreTold keys
   pub position : FitsDigits (length t.exponents) h.position
-  pub degree : t.degree + h.degree < 31
+  pub degree : t.degree + h.degree < digit_base (length t.exponents)
   pub exponents : (k : ℕ) → get_or t.exponents k 0 ≤ t.degree
 
 -- a key with the hash of the product is the product, which is not of too great a degree

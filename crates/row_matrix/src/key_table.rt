@@ -1,12 +1,13 @@
 // Numbers for module monomials.
-ghost use Rattle.std.specs.Prelude.{◌≡◌, ◌<◌, ◌≤◌, ◌+◌, ◌++◌, ◌↔◌, List, true, [], ◌∷◌, ◌⊎◌, ℕ, fold, length, get_or};
+ghost use Rattle.std.specs.Prelude.{◌≡◌, ◌<◌, ◌≤◌, ◌+◌, ◌++◌, ◌*◌, ◌^◌, ◌↔◌, List, true, [], ◌∷◌, ◌⊎◌, ℕ, cond, fold, length, get_or};
 ghost use Rattle.std.specs.Prelude.{IfErr, IfOk, IfSome, IfNone, IsTrue, OnOk, OnErr};
 ghost use Rattle.std.specs.Vec.{vec_len, vec_capacity};
 ghost use Rattle.formal_sums.specs.FormalSums.{Each};
 ghost use Rattle.term_lists.specs.Vectors.{HasVariables};
 ghost use Rattle.monomial_orders.specs.Monomials.{StopsAbove};
 ghost use Rattle.row_matrix.specs.Hashes.{AreDistinctKeys, Lacks, IsChained, IsTable, IsNumbered};
-ghost use Rattle.row_matrix.specs.Hashes.{bucket_of, factor_hash, hash_of, hash_step, no_key, key_product, sums, term_hashes};
+ghost use Rattle.row_matrix.specs.Hashes.{bucket_of, digit_base, factor_hash, hash_behind, hash_of, hash_step};
+ghost use Rattle.row_matrix.specs.Hashes.{no_key, key_product, sums, term_hashes};
 ghost use Rattle.row_matrix.specs.Naming.{IsPartOfProduct};
 ghost use Rattle.row_matrix.specs.Told.{AreTold, AreToldWith, FitsDigits, IsToldKey, TellsProduct};
 
@@ -26,6 +27,11 @@ const DIGIT: u64 = 31;
 // A digit has at most so many bits. While those of the position and of all exponents are 64 or fewer, the hash tells the key.
 const DIGIT_BITS: u32 = 5;
 
+// The same for shorter digits, which leave room for a position where there are too many variables for the others.
+const SHORT_DIGIT: u64 = 7;
+
+const SHORT_DIGIT_BITS: u32 = 3;
+
 const FIRST_BUCKETS: usize = 64;
 
 // Room for so many keys is there from the start: as many as have the first buckets.
@@ -34,29 +40,46 @@ const FIRST_KEYS: usize = 32;
 // The greatest degree of a product.
 const MAX_DEGREE: u128 = 65535;
 
-// The exponents as digits behind this number.
-fn hash_digits(start: u64, exponents: &[u16]) -> u64
-    ensures { result ≡ fold hash_step start exponents.now }
+// Are exponents hashed as short digits, in so many variables?
+fn are_short(n: usize) -> bool
+    ensures { digit_base n ≡ cond result 7 31 }
+{
+    12 < n && n < 16
+}
+
+// The exponents as digits to this base behind this number.
+fn hash_digits(base: u64, start: u64, exponents: &[u16]) -> u64
+    ensures { result ≡ fold (hash_step base) start exponents.now }
 {
     let mut hash = start;
     for exponent in exponents {
-        hash = hash.wrapping_mul(DIGIT).wrapping_add(u64::from(*exponent));
+        hash = hash.wrapping_mul(base).wrapping_add(u64::from(*exponent));
     }
     hash
+}
+
+// The exponents as digits behind this number. A call for each base, so that each loop multiplies by a constant.
+fn hash_exponents(start: u64, exponents: &[u16]) -> u64
+    ensures { result ≡ hash_behind start exponents.now }
+{
+    if are_short(exponents.len()) {
+        return hash_digits(SHORT_DIGIT, start, exponents);
+    }
+    hash_digits(DIGIT, start, exponents)
 }
 
 /// The hash by which a key is found.
 pub fn hash_of_key(key: &Key) -> u64
     ensures { result ≡ hash_of key.now }
 {
-    hash_digits(key.position, key.monomial.exponents())
+    hash_exponents(key.position, key.monomial.exponents())
 }
 
 /// What a monomial adds to a key's hash when it multiplies the key: hashes are linear in the exponents.
 pub fn hash_of_factor(t: &Mono) -> u64
     ensures { result ≡ factor_hash t.now }
 {
-    hash_digits(0, t.exponents())
+    hash_exponents(0, t.exponents())
 }
 
 // Are these the sums of the others, place by place?
@@ -75,14 +98,26 @@ fn are_sums(places: &[u16], left: &[u16], right: &[u16]) -> bool
     true
 }
 
-// Does the hash alone tell a key of this degree and position, in so many variables?
-fn is_told(position: u64, degree: u128, n: usize) -> bool
-    ensures { IsTrue result → FitsDigits n position × (degree < 31) }
+// Is the degree a digit to this base, and do so many digits, each of so many bits, have room behind the position?
+fn are_digits(base: u64, bits: u32, position: u64, degree: u128, n: usize) -> bool
+    requires some { 0 < bits }
+    requires bits { base ≤ 2 ^ bits }
+    ensures { IsTrue result → ((position + 1) * base ^ n ≤ 2 ^ 64) × (degree < base) }
 {
-    if degree < u128::from(DIGIT) {
-        return n <= (position.leading_zeros() / DIGIT_BITS) as usize;
+    if degree < u128::from(base) {
+        return n <= (position.leading_zeros() / bits) as usize;
     }
     false
+}
+
+// Does the hash alone tell a key of this degree and position, in so many variables?
+fn is_told(position: u64, degree: u128, n: usize) -> bool
+    ensures { IsTrue result → FitsDigits n position × (degree < digit_base n) }
+{
+    if are_short(n) {
+        return are_digits(SHORT_DIGIT, SHORT_DIGIT_BITS, position, degree, n);
+    }
+    are_digits(DIGIT, DIGIT_BITS, position, degree, n)
 }
 
 // Is it one of the keys that their hashes tell?

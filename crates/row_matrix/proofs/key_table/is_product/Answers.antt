@@ -1,9 +1,8 @@
 use Rattle.std.proofs.Common.{ap, arith, false, length, refl, subst, sym, true, ◌+◌, ◌<◌, ◌∙◌, ◌≡◌}
-use Rattle.std.specs.Prelude.{fold}
 use Rattle.term_lists.specs.declared.key.Key.{Key}
 use Rattle.row_matrix.proofs.Digits.{digits_few, digits_same, sums_few}
 use Rattle.row_matrix.proofs.KeyProducts.{length_sums, product_exact}
-use Rattle.row_matrix.specs.Hashes.{hash_step, sums}
+use Rattle.row_matrix.specs.Hashes.{digit_base, hash_behind, sums}
 use Rattle.row_matrix.specs.Told.{FitsDigits}
 use Rattle.row_matrix.proofs.key_table.is_product.Goals as goal
 
@@ -28,14 +27,18 @@ returns-then-is_told c =
     let place : product.position ≡ key.position = c.if-product-key.false in
     let degree : product.monomial.degree ≡ t.degree + key.monomial.degree =
     omega (arith, c.if-degree.false, c.degree.ensures.value, c.degree-2.ensures.value, c.degree-3.ensures.value) in
-    let low : t.degree + key.monomial.degree < 31 = omega (arith, told.1, c.degree.ensures.value, c.degree-2.ensures.value) in
     let same : length xs ≡ length ys =
     omega (arith, c.if-variables-n.false, c.variables.ensures, c.variables-n.ensures, length_sums t.exponents key.monomial.exponents c.requires.variables) in
     let wide : length ys ≡ c.variables-n.result = omega (arith, same, c.if-variables-n.false, c.variables.ensures) in
     let fits : FitsDigits (length ys) key.position = subst (λ n. FitsDigits n key.position) (sym wide) told.0 in
+    let low : t.degree + key.monomial.degree < digit_base (length ys) =
+    subst (λ d. d < digit_base (length ys)) (omega (arith, c.degree.ensures.value, c.degree-2.ensures.value))
+    (subst (λ n. c.degree.result + c.degree-2.result < digit_base n) (sym wide) told.1) in
+    let least : product.monomial.degree < digit_base (length xs) =
+    subst (λ d. d < digit_base (length xs)) (sym degree) (subst (λ n. t.degree + key.monomial.degree < digit_base n) (sym same) low) in
     let exponents : xs ≡ ys =
     (digits_same key.position key.position xs ys (subst (λ n. FitsDigits n key.position) (sym same) fits) fits same
-    (digits_few product.monomial.degree xs c.bounds.ensures.held (omega (arith, degree, low)))
-    (sums_few t.degree key.monomial.degree t.exponents key.monomial.exponents c.bounds-2.ensures.held c.bounds-3.ensures.held low)
-    (ap (λ p. fold hash_step p xs) (sym place) ∙ c.requires.hash)).1 in
+    (digits_few (digit_base (length xs)) product.monomial.degree xs c.bounds.ensures.held least)
+    (sums_few (digit_base (length ys)) t.degree key.monomial.degree t.exponents key.monomial.exponents c.bounds-2.ensures.held c.bounds-3.ensures.held low)
+    (ap (λ p. hash_behind p xs) (sym place) ∙ c.requires.hash)).1 in
     (λ _. product_exact t key product place degree exponents, λ _. refl)
