@@ -5,3 +5,5 @@ pub mod Tracing
 pub mod Counting
 pub mod Dividing
 pub mod Hashing
+pub mod Degrees
+pub mod UnaryBits

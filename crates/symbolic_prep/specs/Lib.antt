@@ -5,3 +5,4 @@ pub mod Plans
 pub mod Counts
 pub mod Divisors
 pub mod Hashed
+pub mod Unary

@@ -9,6 +9,7 @@ mod plan;
 mod preparing;
 mod reducers;
 mod stop;
+mod words;
 
 pub use preparing::{Prepared, prepare};
 pub use stop::{GreatProduct, PrepareStop};

@@ -12,7 +12,7 @@ ghost use Rattle.symbolic_prep.specs.Plans.{AreClosed, IsLaterPlan, IsPlan};
 ghost use Rattle.pair_criteria.specs.Traces.{AreTraced};
 ghost use Rattle.symbolic_prep.specs.Traces.{PlanStops};
 
-use crate::divisors::{Divisor, divisors_of, find_divisor};
+use crate::divisors::{Divisors, divisors_of, find_divisor};
 use crate::plan::{Plan, add_product};
 use crate::stop::PlanStop;
 use module_vectors::{Ring, Vectors};
@@ -25,13 +25,13 @@ fn add_reducer<L: Vectors>(
     ring: &Ring,
     members: &L,
     _pairs: &[Pair],
-    divisors: &[Divisor],
+    divisors: &Divisors,
     plan: &mut Plan,
     cursor: usize,
 ) -> Result<(), PlanStop>
     requires within { cursor < length plan.old.keys }
     requires weighed { AreWeighed (variables ring.now) ring.now.weights (L.listed members.now) }
-    requires divisors { AreSortedDivisors (L.listed members.now) divisors.now }
+    requires divisors { AreSortedDivisors (L.listed members.now) divisors.now.sorted.items divisors.now.bits.items divisors.now.least.items }
     requires plan { IsPlan (variables ring.now) ring.now.weights (L.listed members.now)
         plan.old.keys plan.old.rows.items plan.old.products.items plan.old.led.items }
     requires traced { AreTraced (variables ring.now) (L.listed members.now) _pairs.now plan.old.products.items }
