@@ -8,7 +8,7 @@ use Rattle.formal_sums.specs.FormalSums.{FormalSum}
 use Rattle.bases.specs.Leads.{leads}
 use Rattle.basis_steps.specs.Pairs.{Pair}
 use Rattle.pair_updates.proofs.RowMasks.{divisor_exceeds, implied_four}
-use Rattle.pair_updates.specs.Dropping.{IsMet, new_pair_of}
+use Rattle.pair_updates.specs.Dropping.{IsPairWithBits, new_pair_of}
 use Rattle.pair_updates.specs.FirstYields.{AreActive}
 use Rattle.pair_updates.specs.LeadCriteria.{DividesLcm}
 use Rattle.pair_updates.specs.Leads.{LeadsShown, sums_shown}
@@ -39,11 +39,11 @@ module _ (m : LeadsShown) where
   kept_same i h j a b ea eb d e = ea ∙ same_bits i h j d e ∙ sym eb
 
   -- a pair that is met, by its indices
-  pub met_at : (h i : ℕ) (x : NewPair) → IsMet m x → new_pair_of x ≡ (i, h) → IsMet m (record { i = i; j = h; above = x.above })
+  pub met_at : (h i : ℕ) (x : NewPair) → IsPairWithBits m x → new_pair_of x ≡ (i, h) → IsPairWithBits m (record { i = i; j = h; above = x.above })
   met_at h i x met e =
-      subst (λ (p : Pair). IsMet m (record { i = p.0; j = p.1; above = x.above })) e (record { pair = met.pair; above = met.above })
+      subst (λ (p : Pair). IsPairWithBits m (record { i = p.0; j = p.1; above = x.above })) e (record { pair = met.pair; above = met.above })
 
-  pub other_pair : (h : ℕ) (y : NewPair) → IsMet m y → y.j ≡ h → IsMet m (record { i = y.i; j = h; above = y.above })
+  pub other_pair : (h : ℕ) (y : NewPair) → IsPairWithBits m y → y.j ≡ h → IsPairWithBits m (record { i = y.i; j = h; above = y.above })
   other_pair h y met e = met_at h y.i y met (ap (λ j. (y.i, j)) e)
 
   pub active_none : (h : ℕ) → AreActive m h [] []
@@ -51,21 +51,21 @@ module _ (m : LeadsShown) where
 
   -- one more active member
   pub active_pushed :
-      (h i a : ℕ) (members above : List ℕ) → AreActive m h members above → IsMet m (record { i = i; j = h; above = a })
+      (h i a : ℕ) (members above : List ℕ) → AreActive m h members above → IsPairWithBits m (record { i = i; j = h; above = a })
       → AreActive m h (members ++ i ∷ []) (above ++ a ∷ [])
   active_pushed h i a members above all met = record {
     len = let e = all.len in omega (arith, e, length_push members i, length_push above a);
     each = λ x lt. go x lt (cases_lt x (length members));
   }
     where
-      at : (x k l : ℕ) → get_or (members ++ i ∷ []) x 0 ≡ k → get_or (above ++ a ∷ []) x 0 ≡ l → IsMet m (record { i = k; j = h; above = l })
-          → IsMet m (record { i = get_or (members ++ i ∷ []) x 0; j = h; above = get_or (above ++ a ∷ []) x 0 })
+      at : (x k l : ℕ) → get_or (members ++ i ∷ []) x 0 ≡ k → get_or (above ++ a ∷ []) x 0 ≡ l → IsPairWithBits m (record { i = k; j = h; above = l })
+          → IsPairWithBits m (record { i = get_or (members ++ i ∷ []) x 0; j = h; above = get_or (above ++ a ∷ []) x 0 })
       at x k l e f is =
-          subst (λ z. IsMet m (record { i = z; j = h; above = get_or (above ++ a ∷ []) x 0 })) (sym e)
-          (subst (λ z. IsMet m (record { i = k; j = h; above = z })) (sym f) is)
+          subst (λ z. IsPairWithBits m (record { i = z; j = h; above = get_or (above ++ a ∷ []) x 0 })) (sym e)
+          (subst (λ z. IsPairWithBits m (record { i = k; j = h; above = z })) (sym f) is)
 
       go : (x : ℕ) → x < length (members ++ i ∷ []) → (x < length members) ⊎ (length members ≤ x)
-          → IsMet m (record { i = get_or (members ++ i ∷ []) x 0; j = h; above = get_or (above ++ a ∷ []) x 0 })
+          → IsPairWithBits m (record { i = get_or (members ++ i ∷ []) x 0; j = h; above = get_or (above ++ a ∷ []) x 0 })
       go x lt (inl l) =
           at x (get_or members x 0) (get_or above x 0) (get_or_append_left members (i ∷ []) 0 x l)
           (get_or_append_left above (a ∷ []) 0 x (let e = all.len in omega (arith, e, l))) (all.each x l)

@@ -6,7 +6,7 @@ use Rattle.basis_steps.specs.Criteria.{lcm_of}
 use Rattle.basis_steps.specs.Drops.{YieldsTo}
 use Rattle.basis_steps.specs.Pairs.{Pair}
 use Rattle.basis_steps.specs.Updates.{IsFirstLive, IsFirstSpared, IsOfGroup, Remains, YieldsFirstTo}
-use Rattle.pair_updates.specs.Dropping.{AreNewPairs, IsFate, IsMet, IsNewIn, IsNewPair, new_pair_of}
+use Rattle.pair_updates.specs.Dropping.{AreNewPairs, IsFate, IsPairWithBits, IsNewIn, IsNewPair, new_pair_of}
 use Rattle.pair_updates.specs.declared.dropping.Fate.{Fate}
 use Rattle.pair_updates.specs.declared.dropping.Fate.TheVariants as fates
 use Rattle.pair_updates.specs.Leads.{LeadsShown, setting_of_leads, sums_shown}
@@ -91,7 +91,7 @@ module _ (m : LeadsShown) (news : List (Option NewPair)) (x : NewPair) (h : IsNe
 -- the pair that the list has for i is one of its new member's
 pub new_in :
     (m : LeadsShown) (news : List (Option NewPair)) (h i : ℕ) (y : NewPair)
-    → AreNewPairs m h news → IsMet m y → new_pair_of y ≡ (i, h) → IsNewIn m news y
+    → AreNewPairs m h news → IsPairWithBits m y → new_pair_of y ≡ (i, h) → IsNewIn m news y
 new_in m news h i y all real e = record { pairs = subst (λ k. AreNewPairs m k news) (sym (ap (λ (p : Pair). p.1) e)) all; met = real }
 
 -- so what becomes of it is what becomes of the pair of i

@@ -21,13 +21,13 @@ abbrev pub new_pair_of : NewPair → Pair
 new_pair_of x = (x.i, x.j)
 
 -- a pair of members, with the bits that say where its earlier lead exceeds the new one
-pub record IsMet (m : LeadsShown) (x : NewPair) : Type 0 where
+pub record IsPairWithBits (m : LeadsShown) (x : NewPair) : Type 0 where
   pub pair : IsPair (sums_shown m) (new_pair_of x)
   pub above : x.above ≡ bits_above m x.i x.j
 
 -- the pair of member i and the new member h, or nothing where their leads stand at two positions
 abbrev pub IsNewPair : LeadsShown → (h i : ℕ) → Option NewPair → Type 0
-IsNewPair m h i pair = MatchOption pair (IsPair (sums_shown m) (i, h) → ⊥) (λ x. IsMet m x × (new_pair_of x ≡ (i, h)))
+IsNewPair m h i pair = MatchOption pair (IsPair (sums_shown m) (i, h) → ⊥) (λ x. IsPairWithBits m x × (new_pair_of x ≡ (i, h)))
 
 -- those of each earlier member and the new member h, in their order
 pub record AreNewPairs (m : LeadsShown) (h : ℕ) (pairs : List (Option NewPair)) : Type 0 where
@@ -37,7 +37,7 @@ pub record AreNewPairs (m : LeadsShown) (h : ℕ) (pairs : List (Option NewPair)
 -- the pair is one of those of its new member
 pub record IsNewIn (m : LeadsShown) (news : List (Option NewPair)) (x : NewPair) : Type 0 where
   pub pairs : AreNewPairs m x.j news
-  pub met : IsMet m x
+  pub met : IsPairWithBits m x
 
 -- what becomes of the pair of i and h: there is none; it is dropped for k; or it remains and is the first of its group, spared by the product criterion or queued (Gebauer and Möller 1988)
 abbrev pub IsFate : {n : ℕ} → Setting n → List (FormalSum n) → (h i : ℕ) → Fate → Type 0

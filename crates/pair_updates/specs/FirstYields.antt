@@ -4,7 +4,7 @@ use Rattle.formal_sums.specs.FormalSums.{Each, FormalSum}
 use Rattle.basis_steps.specs.Criteria.{IsPair}
 use Rattle.basis_steps.specs.Drops.{YieldsTo}
 use Rattle.basis_steps.specs.Updates.{IsOfGroup, Remains, YieldsFirstTo}
-use Rattle.pair_updates.specs.Dropping.{IsMet}
+use Rattle.pair_updates.specs.Dropping.{IsPairWithBits}
 use Rattle.pair_updates.specs.Leads.{LeadsShown, sums_shown}
 
 -- the numbers rise
@@ -71,4 +71,4 @@ pub record HasGroup {n : ℕ} (G : List (FormalSum n)) (h i : ℕ) (cs : List �
 -- members below k whose pairs with h are pairs, each with its bits
 pub record AreActive (m : LeadsShown) (h : ℕ) (members above : List ℕ) : Type 0 where
   pub len : length above ≡ length members
-  pub each : (x : ℕ) → x < length members → IsMet m (record { i = get_or members x 0; j = h; above = get_or above x 0 })
+  pub each : (x : ℕ) → x < length members → IsPairWithBits m (record { i = get_or members x 0; j = h; above = get_or above x 0 })

@@ -17,8 +17,8 @@ abbrev pub key_row : CodeKey → List ℕ
 key_row k = row 16 (exponents_of (length k.monomial.exponents) k.monomial.exponents)
 
 -- those of each key
-abbrev pub rows_of : List CodeKey → List (List ℕ)
-rows_of ks = map (λ k. key_row k) ks
+abbrev pub key_rows : List CodeKey → List (List ℕ)
+key_rows ks = map (λ k. key_row k) ks
 
 -- those of the lead of member i
 abbrev pub lead_row : LeadsShown → ℕ → List ℕ

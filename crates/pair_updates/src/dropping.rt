@@ -4,7 +4,7 @@ ghost use Rattle.basis_steps.specs.Criteria.{IsPair};
 ghost use Rattle.basis_steps.specs.Drops.{LeavesFor, YieldsTo};
 ghost use Rattle.basis_steps.specs.Updates.{IsFirstSpared, IsOfGroup, Remains, YieldsFirstTo};
 ghost use Rattle.formal_sums.specs.FormalSums.{Each};
-ghost use Rattle.pair_updates.specs.Dropping.{AreNewPairs, IsFate, IsMet, IsNewIn};
+ghost use Rattle.pair_updates.specs.Dropping.{AreNewPairs, IsFate, IsPairWithBits, IsNewIn};
 ghost use Rattle.pair_updates.specs.FirstYields.{AreFirstYields, HasGroup};
 ghost use Rattle.pair_updates.specs.Leads.{setting_of_leads, sums_shown};
 ghost use Rattle.pair_updates.specs.LeadCriteria.{ProductSpares};
@@ -46,8 +46,8 @@ pub(crate) fn leaves_for(leads: &Leads, h: usize, i: usize, j: usize) -> bool
 
 /// Does the pair yield to that of j and the same new member, with these bits? By its bits most do not.
 pub(crate) fn yields_to(leads: &Leads, pair: &NewPair, j: usize, above: u64) -> bool
-    requires pair { IsMet leads.now pair.now }
-    requires other { IsMet leads.now (record { i = j; j = pair.now.j; above = above }) }
+    requires pair { IsPairWithBits leads.now pair.now }
+    requires other { IsPairWithBits leads.now (record { i = j; j = pair.now.j; above = above }) }
     ensures { IsTrue result ↔ YieldsTo (sums_shown leads.now) pair.now.j pair.now.i j }
 {
     if !is_within(above, pair.above) {
@@ -64,8 +64,8 @@ pub(crate) fn yields_to(leads: &Leads, pair: &NewPair, j: usize, above: u64) -> 
 
 // Have two pairs with one new member one lcm? Those that have not differ in their bits most often.
 fn have_one_lcm(leads: &Leads, pair: &NewPair, other: &NewPair) -> bool
-    requires pair { IsMet leads.now pair.now }
-    requires other { IsMet leads.now other.now }
+    requires pair { IsPairWithBits leads.now pair.now }
+    requires other { IsPairWithBits leads.now other.now }
     requires one { other.now.j ≡ pair.now.j }
     ensures { IsTrue result ↔ IsOfGroup (sums_shown leads.now) pair.now.j pair.now.i other.now.i }
 {

@@ -8,7 +8,7 @@ ghost use Rattle.monomial_orders.specs.Comparisons.{key_comparison};
 ghost use Rattle.monomial_orders.specs.Kept.{IsWeighed};
 ghost use Rattle.monomials.specs.Exponents.{exponents_of};
 ghost use Rattle.pair_updates.specs.Leads.{sums_shown};
-ghost use Rattle.pair_updates.specs.Rows.{lead_row, rows_of};
+ghost use Rattle.pair_updates.specs.Rows.{lead_row, key_rows};
 
 use crate::rows::row_of;
 use module_vectors::{Key, NoMemory};
@@ -47,7 +47,7 @@ impl Model for Leads {
     ghost use Rattle.formal_sums.specs.FormalSums.{Each};
     ghost use Rattle.monomial_orders.specs.Kept.{IsWeighed};
     ghost use Rattle.pair_updates.specs.Leads.{LeadsShown};
-    ghost use Rattle.pair_updates.specs.Rows.{rows_of};
+    ghost use Rattle.pair_updates.specs.Rows.{key_rows};
 
     ghost Value = { LeadsShown };
 
@@ -60,15 +60,15 @@ impl Model for Leads {
       keys = l.keys.items;
     } };
 
-    ghost invariant = { λ l. Each (λ k. IsWeighed (length l.weights) l.weights k.monomial) l.keys.items × (l.rows.items ≡ rows_of l.keys.items) };
+    ghost invariant = { λ l. Each (λ k. IsWeighed (length l.weights) l.weights k.monomial) l.keys.items × (l.rows.items ≡ key_rows l.keys.items) };
 }
 
 // The rows of the keys behind those that have one, in the room for them.
 fn push_rows(keys: &[Key], rows: &mut Vec<[u16; 16]>)
-    requires rows { rows.old.items ≡ rows_of (take (vec_len rows.old) keys.now) }
+    requires rows { rows.old.items ≡ key_rows (take (vec_len rows.old) keys.now) }
     requires few { vec_len rows.old ≤ length keys.now }
     requires room { length keys.now ≤ vec_capacity rows.old }
-    ensures { rows.new.items ≡ rows_of keys.now }
+    ensures { rows.new.items ≡ key_rows keys.now }
 {
     for k in rows.len()..keys.len() {
         rows.push_reserved(row_of(&keys[k].monomial));
