@@ -18,10 +18,11 @@ use Rattle.bases.specs.Leads.{IsMonicLead, IsMonicList, IsNormal, head_key, lead
 use Rattle.bases.specs.Settings.{IsLawful, Setting}
 use Rattle.syzygy_laws.proofs.SyzygyLeads.{IsLawful_induced}
 use Rattle.syzygy_laws.specs.Syzygies.{induced_setting, pair_lead_key}
-use Rattle.vector_division.proofs.Occurring.{nonzeros}
 use Rattle.resolution_laws.proofs.Existence.{basis_of_pairs, exact_of_pairs}
 use Rattle.resolution_laws.specs.Resolutions.{IsCanonicalMap, IsExact}
-use Rattle.schreyer_resolution.specs.Steps.{ArePairLeads, IsColumn, IsLastDivisor, IsPairKey, key_at}
+use Rattle.vector_division.proofs.Occurring.{nonzeros}
+use Rattle.induced_leads.specs.PairLeads.{ArePairLeads, IsPairKey, key_at}
+use Rattle.schreyer_resolution.specs.Steps.{IsColumn, IsLastDivisor}
 
 -- a key that stands nowhere has the coefficient 0
 pub coefficient_none : {n : ℕ} (v : FormalSum n) (k : Key n) → Each (λ t. k ≡ t.0 → ⊥) v → coefficient v k ≡ 0

@@ -1,9 +1,8 @@
 -- The loop of a division by the last divisors
-use Rattle.std.proofs.Common.{Greater, Less, List, None, Option, Ordering, Some, inl, inr, ◌⊎◌, [], ap, arith, get_or, length, mod-eq_of_lt, refl, subst, subst₂, sym, ℕ, ◌%◌, ◌*◌, ◌++◌, ◌+◌, ◌-◌, ◌<◌, ◌∙◌, ◌∷◌, ◌≡◌, append-nil}
-use Rattle.std.proofs.lemmas.List.{map-append}
-use Rattle.std.proofs.lemmas.List.{length-map}
+use Rattle.std.proofs.Common.{Greater, Less, List, None, Option, Ordering, Some, inl, inr, ◌⊎◌, [], ap, arith, get_or, length, refl, subst, subst₂, sym, ℕ, ◌*◌, ◌++◌, ◌+◌, ◌-◌, ◌<◌, ◌∙◌, ◌∷◌, ◌≡◌, append-nil}
+use Rattle.std.proofs.lemmas.List.{map-append, length-map}
 use Rattle.residues.specs.Residues.{IsCongruent}
-use Rattle.residues.proofs.Congruences.{IsCongruent_add, IsCongruent_equal, IsCongruent_minus, IsCongruent_nonzero, IsCongruent_of, IsCongruent_refl, IsCongruent_sym, IsCongruent_trans}
+use Rattle.residues.proofs.Congruences.{IsCongruent_add, IsCongruent_minus, IsCongruent_nonzero, IsCongruent_of, IsCongruent_refl, IsCongruent_sym, IsCongruent_trans}
 use Rattle.monomials.specs.Exponents.{exponents_of, unit}
 use Rattle.formal_sums.proofs.Combining.{Each_map, IsMember_append, IsMember_same, IsMember_scale}
 use Rattle.formal_sums.proofs.OfRank.{IsMember_of}
@@ -19,8 +18,8 @@ use Rattle.bases.proofs.NormalForms.{at_head}
 use Rattle.bases.specs.Bases.{IsCovered, IsGroebnerBasis}
 use Rattle.bases.specs.Leads.{IsLead, IsMonicList, head_key, leads}
 use Rattle.bases.specs.Settings.{IsLawful, Setting}
+use Rattle.division_laws.proofs.Remainders.{remainder_zero}
 use Rattle.monomial_orders.specs.Kept.{Monomial}
-use Rattle.term_lists.proofs.Parts.{Each_member}
 use Rattle.term_lists.specs.Rings.{setting, variables}
 use Rattle.term_lists.specs.Vectors.{AreVectorsOver, IsMonomialOver, IsTerm, IsVectorOver, key_of, sum_of, sums_of}
 use Rattle.term_lists.specs.declared.key.Key.{Key as CodeKey}
@@ -33,17 +32,18 @@ use Rattle.vector_division.proofs.Keeping.{kept_first, kept_same}
 use Rattle.vector_division.proofs.Occurring.{at_key, occurs}
 use Rattle.vector_division.proofs.Topping.{total-push, with_zero}
 use Rattle.vector_division.proofs.Members.{sums_at}
-use Rattle.division_laws.proofs.Remainders.{remainder_zero}
 use Rattle.vector_division.specs.Divisions.{IsFreeOfLeads, IsUncovered}
-use Rattle.vector_division.specs.Progress.{IsFactor, IsSubtraction, SubtractionStops}
+use Rattle.vector_division.specs.Progress.{IsSubtraction, SubtractionStops}
 use Rattle.vector_division.specs.Reductions.{cofactors_of}
 use Rattle.vector_division.specs.Runs as divisions
 use Rattle.vector_division.specs.Runs.{AreBelow, IsNextTaken, IsOver, IsSplit, StandsWith, Supports, total, with_next}
 use Rattle.vector_division.specs.declared.reduction.ScaledProduct.{ScaledProduct}
+use Rattle.induced_leads.specs.PairLeads.{IsPairKey}
+use Rattle.induced_leads.specs.Spans.{IsFoundLast}
+use Rattle.induced_leads.specs.Sifting.{IsSifting}
 use Rattle.schreyer_resolution.specs.Chains.{IsFailing}
-use Rattle.schreyer_resolution.specs.Columns.{IsProductDivided, IsFoundLast, IsProductOf, IsColumnUnderway}
-use Rattle.schreyer_resolution.specs.Sifting.{IsSifting}
-use Rattle.schreyer_resolution.specs.Steps.{IsLastDivisor, IsPairKey}
+use Rattle.schreyer_resolution.specs.Columns.{IsProductDivided, IsProductOf, IsColumnUnderway}
+use Rattle.schreyer_resolution.specs.Steps.{IsLastDivisor}
 use Rattle.schreyer_resolution.proofs.Making.{v_member}
 
 abbrev pub Terms : Type 0
@@ -104,14 +104,6 @@ supported {n} p P v h k nz = go (occurs v k)
     go (inl i) = at_key P v k h i
     go (inr z) = absurd (nz (IsCongruent_of p _ _ z))
 
--- a residue is itself over 1
-pub factor_of_one : (p a b : ℕ) → 0 < a → a < p → b ≡ 1 → IsFactor p a b a
-factor_of_one p a b pos lt one = record {
-  nonzero = pos;
-  reduced = lt;
-  product = ap (λ z. (a * z) % p) one ∙ ap (λ z. z % p) (omega arith) ∙ mod-eq_of_lt lt;
-}
-
 module _ (ring : Ring) (compare : (n : ℕ) → Key n → Key n → Ordering) (rank : ℕ) (lawful : IsLawful (setting ring (variables ring) (compare (variables ring)) rank)) (order : IsKeyOrder 0 (compare (variables ring)))
     (cols : List Terms) (vectors : AreVectorsOver ring compare cols)
     (monic : IsMonicList (setting ring (variables ring) (compare (variables ring)) rank) (sums_of (variables ring) cols)) where
@@ -143,20 +135,6 @@ module _ (ring : Ring) (compare : (n : ℕ) → Key n → Key n → Ordering) (r
       go : (w : Terms) → get_or cols j [] ≡ w → 0 < length (get_or cols j [])
       go [] e = absurd (lead_of_zero S (get_or F j []) (leads F j) (sums_at (variables ring) cols j ∙ ap (sum_of (variables ring)) e) (led j (in_sums j lt)))
       go (t ∷ w) e = subst (λ z. 0 < length z) (sym e) (omega arith)
-
-  -- the first residue of a column is 1
-  pub one_first : (j : ℕ) (t : CodeKey × ℕ) → j < length cols → t ≡ get_or (get_or cols j []) 0 t → t.1 ≡ 1
-  one_first j t lt is = go (get_or cols j []) refl
-    where
-      go : (w : Terms) → get_or cols j [] ≡ w → t.1 ≡ 1
-      go [] e = absurd (let s = some j lt in omega (arith, subst (λ z. 0 < length z) e s))
-      go (x ∷ w) e =
-          let v : IsVectorOver ring compare (x ∷ w) = subst (IsVectorOver ring compare) e (Each_member (IsVectorOver ring compare) cols j [] vectors lt) in
-          let m = monic.monic j (in_sums j lt) in
-          let s : get_or F j [] ≡ sum_of (variables ring) (x ∷ w) = sums_at (variables ring) cols j ∙ ap (sum_of (variables ring)) e in
-          let here : t ≡ x = is ∙ ap (λ z. get_or z 0 t) e in
-          let c : coefficient (get_or F j []) (leads F j) ≡ x.1 = ap (λ z. coefficient z (head_key z)) s ∙ at_head S lawful (key_of (variables ring) x.0, x.1) (sum_of (variables ring) w) v.descends in
-          ap (λ z. z.1) here ∙ IsCongruent_equal S.modulus x.1 1 v.each.0.reduced lawful.domain.above_one (IsCongruent_trans (IsCongruent_of S.modulus _ _ (sym c)) m.one)
 
   module _ (basis : IsGroebnerBasis (setting ring (variables ring) (compare (variables ring)) rank) (sums_of (variables ring) cols) (sums_of (variables ring) cols))
       (key : CodeKey) (pair : IsPairKey (sums_of (variables ring) cols) (key_of (variables ring) key)) where
@@ -340,8 +318,8 @@ module _ (ring : Ring) (compare : (n : ℕ) → Key n → Key n → Ordering) (r
               (subst₂ KeyDivides (lead_is j) (ap (shift (exponents_of (variables ring) s.1.exponents)) (lead_is s.0) ∙ found.0.lead) d)
 
           -- one product less
-          module _ (new : List Terms) (rest kept : Terms) (lists : AreVectorsOver ring compare new)
-              (taken : IsSubtraction (variables ring) ring.weights ring.modulus.value (compare (variables ring)) s.1 (get_or cols s.0 []) 0 (t ∷ []) rest t.1)
+          module _ (new : List Terms) (rest kept : Terms) (c : ℕ) (lists : AreVectorsOver ring compare new)
+              (taken : IsSubtraction (variables ring) ring.weights ring.modulus.value (compare (variables ring)) s.1 (get_or cols s.0 []) 0 (t ∷ []) rest c)
               (sifted : IsSifting ring compare cols rest kept [])
               (added : IsSame ring.modulus.value (total (variables ring) new) (total (variables ring) runs ++ sum_of (variables ring) kept)) where
             abbrev more : FormalSum (variables ring)
@@ -373,9 +351,9 @@ module _ (ring : Ring) (compare : (n : ℕ) → Key n → Key n → Ordering) (r
 
             all :
                 IsOver (compare (variables ring)) K (sum_of (variables ring) rest)
-                × divisions.IsUnderway (variables ring) ring.weights ring.modulus.value (compare (variables ring)) u.product cols (qs ++ (record { index = s.0; residue = t.1; monomial = s.1 }) ∷ []) (total (variables ring) (new ++ sifted.dropped ∷ []))
-                × ((x : FormalSum (variables ring)) → StandsWith (variables ring) ring.modulus.value u.product cols qs x left → StandsWith (variables ring) ring.modulus.value u.product cols (qs ++ (record { index = s.0; residue = t.1; monomial = s.1 }) ∷ []) x (total (variables ring) (new ++ sifted.dropped ∷ [])))
-            all = carried (variables ring) ring.weights ring.modulus.value (compare (variables ring)) order lawful.domain u.product cols qs t.0 t.1 runs weighed pos lt below u.progress.underway (new ++ sifted.dropped ∷ []) rest s t.1 vectors found.0 taken with_dropped
+                × divisions.IsUnderway (variables ring) ring.weights ring.modulus.value (compare (variables ring)) u.product cols (qs ++ (record { index = s.0; residue = c; monomial = s.1 }) ∷ []) (total (variables ring) (new ++ sifted.dropped ∷ []))
+                × ((x : FormalSum (variables ring)) → StandsWith (variables ring) ring.modulus.value u.product cols qs x left → StandsWith (variables ring) ring.modulus.value u.product cols (qs ++ (record { index = s.0; residue = c; monomial = s.1 }) ∷ []) x (total (variables ring) (new ++ sifted.dropped ∷ [])))
+            all = carried (variables ring) ring.weights ring.modulus.value (compare (variables ring)) order lawful.domain u.product cols qs t.0 t.1 runs weighed pos lt below u.progress.underway (new ++ sifted.dropped ∷ []) rest s c vectors found.0 taken with_dropped
 
             pub rest_below : IsOver (compare (variables ring)) (key_of (variables ring) t.0) (sum_of (variables ring) kept)
             unfolding all
@@ -389,17 +367,17 @@ module _ (ring : Ring) (compare : (n : ℕ) → Key n → Key n → Ordering) (r
                 go (inl h) = at_key (λ l. IsUncovered F l → ⊥) (sum_of (variables ring) kept) k sifted.covered h
                 go (inr z) = u.covered k (with_key (variables ring) ring.modulus.value (compare (variables ring)) order K t.1 runs below k (λ q. nz (IsCongruent_trans (IsCongruent_trans (added.by_key k) (IsCongruent_of ring.modulus.value _ _ (coefficient-append (total (variables ring) runs) (sum_of (variables ring) kept) k ∙ ap (λ y. coefficient (total (variables ring) runs) k + y) z ∙ omega arith))) q)))
 
-            pub underway_next : IsColumnUnderway ring compare cols key (qs ++ (record { index = s.0; residue = t.1; monomial = s.1 }) ∷ []) new (total (variables ring) new)
+            pub underway_next : IsColumnUnderway ring compare cols key (qs ++ (record { index = s.0; residue = c; monomial = s.1 }) ∷ []) new (total (variables ring) new)
             unfolding all
             underway_next = record {
               product = u.product;
               of_column = u.of_column;
               dropped = u.dropped ++ sifted.dropped;
-              progress = parted u.product (qs ++ (record { index = s.0; residue = t.1; monomial = s.1 }) ∷ []) u.dropped sifted.dropped [] new (total (variables ring) (new ++ sifted.dropped ∷ [])) (total (variables ring) new)
+              progress = parted u.product (qs ++ (record { index = s.0; residue = c; monomial = s.1 }) ∷ []) u.dropped sifted.dropped [] new (total (variables ring) (new ++ sifted.dropped ∷ [])) (total (variables ring) new)
                   (record { lists = tt; underway = all.1; stay = u.progress.stay; reduced = u.progress.reduced; sum = all.2 (sum_of (variables ring) u.dropped) u.progress.sum })
                   lists (IsSame_of ring.modulus.value _ _ (total-push (variables ring) new sifted.dropped)) sifted.terms sifted.free covered_next;
               covered = covered_next;
-              last = Each_append _ qs (record { index = s.0; residue = t.1; monomial = s.1 } ∷ []) u.last (is_last, tt);
+              last = Each_append _ qs (record { index = s.0; residue = c; monomial = s.1 } ∷ []) u.last (is_last, tt);
             }
 
           -- or it cannot be made

@@ -20,14 +20,15 @@ use Rattle.module_vectors.specs.declared.trail.WorkStop.TheVariants.{Degree, Mem
 use Rattle.vector_division.proofs.Members.{sums_at}
 use Rattle.resolution_maps.specs.Inducing.{Columns, Tower, induced_through, maps_of, over, tower_comparison}
 use Rattle.resolution_maps.specs.Resolved.{AreFirstMaps, AreVectorsThrough, HavePositions, ResolutionStops}
+use Rattle.induced_leads.specs.PairLeads.{ArePairLeads, IsPairKey, key_at}
+use Rattle.induced_leads.specs.Heads.{AreHeads}
+use Rattle.induced_leads.specs.declared.head.Heads.{Heads}
+use Rattle.induced_leads.proofs.Heading.{maps_of-more}
+use Rattle.induced_leads.proofs.Pushing.{get_or-map, length-pushed, pushed_default}
 use Rattle.schreyer_resolution.specs.Columns.{AreColumnsTo, ColumnStops, IsColumnOf}
-use Rattle.schreyer_resolution.specs.Heads.{AreHeads}
 use Rattle.schreyer_resolution.specs.Progress.{AreResolvedTo, IsNextMap, IsTopMap}
-use Rattle.schreyer_resolution.specs.Steps.{ArePairLeads, IsColumn, IsPairKey, key_at}
-use Rattle.schreyer_resolution.specs.declared.head.Heads.{Heads}
+use Rattle.schreyer_resolution.specs.Steps.{IsColumn}
 use Rattle.schreyer_resolution.proofs.Canonical.{columns_canonical, columns_exact, columns_monic, columns_reduced}
-use Rattle.schreyer_resolution.proofs.Heading.{maps_of-more}
-use Rattle.schreyer_resolution.proofs.Pushing.{get_or-map, length-pushed, pushed_default}
 
 abbrev pub Terms : Type 0
 Terms = List (CodeKey × ℕ)

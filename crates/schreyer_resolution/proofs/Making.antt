@@ -30,9 +30,10 @@ use Rattle.vector_division.proofs.Members.{sums_at}
 use Rattle.vector_division.specs.Reductions.{HaveLeadsUpTo, IsScaledProduct, cofactors_of, unscaled}
 use Rattle.vector_division.specs.declared.reduction.ScaledProduct.{ScaledProduct}
 use Rattle.resolution_maps.specs.Inducing.{Tower, tower_comparison}
+use Rattle.induced_leads.specs.PairLeads.{IsPairKey}
 use Rattle.schreyer_resolution.proofs.Canonical.{column_of}
 use Rattle.schreyer_resolution.specs.Columns.{IsColumnOf, IsProductDivided, IsProductOf, negated_term}
-use Rattle.schreyer_resolution.specs.Steps.{IsLastDivisor, IsPairKey}
+use Rattle.schreyer_resolution.specs.Steps.{IsLastDivisor}
 
 abbrev Terms : Type 0
 Terms = List (CodeKey × ℕ)

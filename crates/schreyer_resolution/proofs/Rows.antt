@@ -16,8 +16,8 @@ use Rattle.vector_division.proofs.Members.{sums_at}
 use Rattle.row_matrix.proofs.Names.{named_more}
 use Rattle.row_matrix.specs.Naming.{AreNamed, IsGrown}
 use Rattle.row_matrix.specs.Rows.{Entry, column_key, row_sum}
-use Rattle.schreyer_resolution.specs.Columns.{IsFoundLast}
-use Rattle.schreyer_resolution.specs.Pairs.{AreNonzero}
+use Rattle.induced_leads.specs.Spans.{IsFoundLast}
+use Rattle.induced_leads.specs.Pairs.{AreNonzero}
 use Rattle.schreyer_resolution.specs.Sharing.{AreReduced, AreEntriesWithin, IsLastProduct, IsProductEntries, column_multiple}
 use Rattle.schreyer_resolution.specs.Steps.{IsLastDivisor}
 use Rattle.schreyer_resolution.specs.declared.numbered.Product.{Product}

@@ -22,13 +22,14 @@ use Rattle.vector_division.proofs.Members.{sums_at}
 use Rattle.vector_division.specs.Reductions.{cofactors_of}
 use Rattle.vector_division.specs.declared.reduction.ScaledProduct.{ScaledProduct}
 use Rattle.resolution_maps.specs.Inducing.{Tower, tower_comparison}
+use Rattle.induced_leads.specs.PairLeads.{ArePairLeads, IsPairKey}
+use Rattle.induced_leads.proofs.Pushing.{length-pushed, pushed_default}
 use Rattle.schreyer_resolution.proofs.Making.{negated, terms_negated, whole_syzygy}
 use Rattle.schreyer_resolution.proofs.FirstMaps.{pair_at}
-use Rattle.schreyer_resolution.proofs.Pushing.{length-pushed, pushed_default}
 use Rattle.schreyer_resolution.proofs.Trailing.{key_inside}
 use Rattle.schreyer_resolution.specs.Columns.{AreColumnsTo, IsColumnOf, negated_term}
 use Rattle.schreyer_resolution.specs.Sharing.{AreLastQuotients, AreColumnsMade, AreReduced, IsLastQuotient, IsColumnMade}
-use Rattle.schreyer_resolution.specs.Steps.{ArePairLeads, IsLastDivisor, IsPairKey}
+use Rattle.schreyer_resolution.specs.Steps.{IsLastDivisor}
 
 abbrev Terms : Type 0
 Terms = List (CodeKey × ℕ)

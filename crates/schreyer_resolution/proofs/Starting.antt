@@ -7,7 +7,8 @@ use Rattle.term_lists.specs.Vectors.{AreVectorsOver, HasPositions, sums_of}
 use Rattle.term_lists.specs.declared.key.Key.{Key as CodeKey}
 use Rattle.term_lists.specs.declared.ring.Ring.{Ring}
 use Rattle.resolution_maps.specs.Inducing.{Columns, Tower, over, tower_comparison}
-use Rattle.schreyer_resolution.specs.Columns.{AreColumnsTo, IsBase}
+use Rattle.induced_leads.specs.PairLeads.{IsBase}
+use Rattle.schreyer_resolution.specs.Columns.{AreColumnsTo}
 use Rattle.schreyer_resolution.specs.Progress.{AreResolvedTo, IsTopMap}
 
 abbrev Terms : Type 0

@@ -27,9 +27,9 @@ use Rattle.vector_division.proofs.Occurring.{Contains_here, Contains_later, at_k
 use Rattle.vector_division.specs.Reductions.{AreMetFrom, unscaled}
 use Rattle.vector_division.specs.declared.reduction.ScaledProduct.{ScaledProduct}
 use Rattle.resolution_maps.specs.Inducing.{Columns}
+use Rattle.induced_leads.specs.PairLeads.{IsPairKey}
 use Rattle.schreyer_resolution.specs.Chains.{IsColumnChain, IsFailing}
 use Rattle.schreyer_resolution.specs.Columns.{IsColumnTrail, IsPartner, IsProductOf, IsWhetherPair}
-use Rattle.schreyer_resolution.specs.Steps.{IsPairKey}
 
 abbrev Terms : Type 0
 Terms = List (CodeKey × ℕ)

@@ -1,23 +1,21 @@
 -- A column of the next map, made by a division
-use Rattle.std.specs.Prelude.{Bool, IsTrue, List, Option, None, Some, [], get_or, length, ⊤, ℕ, ◌%◌, ◌+◌, ◌-◌, ◌<◌, ◌≡◌, ◌≤◌}
+use Rattle.std.specs.Prelude.{Bool, IsTrue, List, [], get_or, length, ⊤, ℕ, ◌%◌, ◌-◌, ◌<◌, ◌≡◌}
 use Rattle.std.specs.declared.cmp.Ordering.{Ordering}
 use Rattle.monomials.specs.Exponents.{exponents_of, lcm, quotient}
 use Rattle.formal_sums.specs.FormalSums.{Each, FormalSum, Key, scale}
-use Rattle.orders.specs.KeyOrders.{KeyDivides, induced}
-use Rattle.bases.specs.Bases.{IsGroebnerBasis}
-use Rattle.bases.specs.Leads.{IsMonicList, leads}
+use Rattle.orders.specs.KeyOrders.{induced}
+use Rattle.bases.specs.Leads.{leads}
 use Rattle.monomial_orders.specs.Kept.{Monomial}
 use Rattle.term_lists.specs.Rings.{setting, variables}
 use Rattle.term_lists.specs.Vectors.{AreVectorsOver, HasPositions, IsVectorOver, StandsFor, key_of, sum_of, sums_of}
 use Rattle.term_lists.specs.declared.key.Key.{Key as CodeKey}
 use Rattle.term_lists.specs.declared.ring.Ring.{Ring}
-use Rattle.module_vectors.specs.Trails.{IsTrail, KeptProduct, lead_at}
+use Rattle.module_vectors.specs.Trails.{IsTrail, lead_at}
 use Rattle.module_vectors.specs.declared.trail.KeptTrail.{KeptTrail}
 use Rattle.module_vectors.specs.declared.trail.TrailStart.TheVariants.{Pair}
 use Rattle.module_vectors.specs.declared.trail.WorkStop.{WorkStop}
 use Rattle.module_vectors.specs.declared.trail.WorkStop.TheVariants.{Memory, Degree}
 use Rattle.vector_division.specs.Divisions.{IsUncovered}
-use Rattle.vector_division.specs.Progress.{IsDivisor}
 use Rattle.vector_division.specs.Runs.{IsSplit, Supports}
 use Rattle.vector_division.specs.declared.reduction.ScaledProduct.{ScaledProduct}
 use Rattle.resolution_maps.specs.Inducing.{Columns, Tower, tower_comparison}
@@ -26,25 +24,6 @@ use Rattle.schreyer_resolution.specs.Steps.{IsColumn, IsLastDivisor}
 -- the tower's order is the one that the columns' leads induce above this order
 abbrev pub IsAbove : Ring → ((n : ℕ) → Key n → Key n → Ordering) → List (List (CodeKey × ℕ)) → Tower → Type 0
 IsAbove ring compare columns t = (n : ℕ) → tower_comparison t n ≡ induced (compare n) (leads (sums_of n columns))
-
--- the columns are monic, and a Gröbner basis of their module
-pub record IsBase (ring : Ring) (compare : (n : ℕ) → Key n → Key n → Ordering) (columns : List (List (CodeKey × ℕ))) : Type 0 where
-  pub rank : ℕ
-  pub monic :
-      let n = variables ring in
-      IsMonicList (setting ring n (compare n) rank) (sums_of n columns)
-  pub basis :
-      let n = variables ring in
-      IsGroebnerBasis (setting ring n (compare n) rank) (sums_of n columns) (sums_of n columns)
-
--- none of the vectors from i on that are not zero has a lead that divides k
-abbrev pub AreTriedFrom : (n : ℕ) → List (List (CodeKey × ℕ)) → Key n → ℕ → Type 0
-AreTriedFrom n list k i = (j : ℕ) → i ≤ j → j < length list → 0 < length (get_or list j []) → KeyDivides (lead_at n list j) k → ⊥
-
--- a product with the lead k, of the last vector that has one, or none where no lead of the list divides k
-abbrev pub IsFoundLast : (n : ℕ) → List ℕ → List (List (CodeKey × ℕ)) → Key n → Option KeptProduct → Type 0
-IsFoundLast n ws list k None = IsUncovered (sums_of n list) k
-IsFoundLast n ws list k (Some s) = IsDivisor n ws list k s × AreTriedFrom n list k (s.0 + 1)
 
 -- v is the product of the key's monomial and its column
 pub record IsProductOf (ring : Ring) (compare : (n : ℕ) → Key n → Key n → Ordering) (columns : List (List (CodeKey × ℕ)))

@@ -7,7 +7,7 @@ use Rattle.term_lists.specs.Vectors.{AreVectorsOver, sum_of}
 use Rattle.term_lists.specs.declared.key.Key.{Key as CodeKey}
 use Rattle.term_lists.specs.declared.ring.Ring.{Ring}
 use Rattle.vector_division.specs.Runs.{AreBelow, IsOver, total}
-use Rattle.schreyer_resolution.specs.Sifting.{IsSifting}
+use Rattle.induced_leads.specs.Sifting.{IsSifting}
 
 -- the terms of v that leads of the columns divide were put into the lists
 pub record AreCoveredPut (ring : Ring) (compare : (n : ℕ) → Key n → Key n → Ordering) (columns : List (List (CodeKey × ℕ))) (v : List (CodeKey × ℕ))

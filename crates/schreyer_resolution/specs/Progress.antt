@@ -9,7 +9,7 @@ use Rattle.term_lists.specs.declared.key.Key.{Key as CodeKey}
 use Rattle.term_lists.specs.declared.ring.Ring.{Ring}
 use Rattle.resolution_maps.specs.Inducing.{Columns, maps_of, over, tower_comparison}
 use Rattle.resolution_maps.specs.Resolved.{AreFirstMaps, AreVectorsThrough, HavePositions}
-use Rattle.schreyer_resolution.specs.Columns.{IsBase}
+use Rattle.induced_leads.specs.PairLeads.{IsBase}
 
 -- the columns F of a map above others: vectors in the order that those induce, monic, and a Gröbner basis
 pub record IsTopMap (ring : Ring) (below : Columns) (F : List (List (CodeKey × ℕ))) : Type 0 where

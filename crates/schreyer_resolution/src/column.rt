@@ -1,32 +1,23 @@
 // A column of the next map.
-ghost use Rattle.std.specs.Prelude.{◌≡◌, ◌<◌, ◌≤◌, ◌+◌, ◌∷◌, ℕ, [], IfErr, IfOk, OnOk, Some, get_or, length, map};
-ghost use Rattle.monomials.specs.Exponents.{exponents_of};
-ghost use Rattle.bases.specs.Leads.{head_key};
-ghost use Rattle.formal_sums.specs.FormalSums.{Each, shift};
-ghost use Rattle.term_lists.specs.Multiples.{MonomialProductStops};
+ghost use Rattle.std.specs.Prelude.{◌≡◌, ◌<◌, ◌∷◌, [], IfErr, IfOk, OnOk, Some, length, map};
+ghost use Rattle.formal_sums.specs.FormalSums.{Each};
 ghost use Rattle.term_lists.specs.Rings.{variables};
-ghost use Rattle.term_lists.specs.Vectors.{AreVectorsOver, HasPositions, IsMonomialOver, IsVectorOver, key_of, sum_of, sums_of};
-ghost use Rattle.vector_division.specs.Progress.{HasBoundedHead, IsSubtraction, SubtractionStops, last_position};
+ghost use Rattle.term_lists.specs.Vectors.{AreVectorsOver, HasPositions, IsMonomialOver, IsVectorOver, key_of, sums_of};
 ghost use Rattle.vector_division.specs.Runs.{AreBelow, total};
 ghost use Rattle.resolution_maps.specs.Inducing.{tower_comparison};
-ghost use Rattle.schreyer_resolution.specs.Columns.{ColumnStops, IsAbove, IsBase, IsColumnOf, IsProductDivided, IsFoundLast, IsProductOf, IsColumnUnderway, negated_term};
+ghost use Rattle.induced_leads.specs.Spans.{IsFoundLast, IsIndexOf};
+ghost use Rattle.induced_leads.specs.PairLeads.{IsBase, IsPairKey};
+ghost use Rattle.schreyer_resolution.specs.Columns.{ColumnStops, IsAbove, IsColumnOf, IsProductDivided, IsProductOf, IsColumnUnderway, negated_term};
 ghost use Rattle.schreyer_resolution.specs.Covered.{AreCoveredPut};
-ghost use Rattle.schreyer_resolution.specs.Spans.{IsIndexOf};
-ghost use Rattle.schreyer_resolution.specs.Steps.{IsPairKey};
 
-use crate::Induced;
-use crate::divisors::{LeadIndex, last_divisor};
-use crate::sifting::covered_terms;
 use crate::trails::{first_stop, later_stop};
-use module_vectors::{Frame, Key, NoMemory, Vect, VectList, VectStop, WorkStop, lawful_setting};
+use induced_leads::{Induced, LeadIndex, covered_terms, last_divisor};
+use module_vectors::{Frame, Key, NoMemory, Vect, VectList, WorkStop, lawful_setting};
 use monomial_orders::Mono;
 use std::alloc::Global;
 use std::collections::VecDeque;
-use vector_division::{Buckets, Run, ScaledProduct};
+use vector_division::{Buckets, Run, ScaledProduct, subtract_lead};
 use zp_field::Modulus;
-
-// The greatest degree of a product of two monomials.
-const MAX_DEGREE: u128 = 65535;
 
 // The product of the key's monomial and its column.
 fn first_product<F: Frame>(
@@ -49,23 +40,6 @@ fn first_product<F: Frame>(
     match product.add_scaled(alloc, frame, 1, &key.monomial, g) {
         Ok(()) => Ok(product),
         Err(stop) => Err(first_stop(alloc, frame, below, columns, key, stop)),
-    }
-}
-
-// A position is a number of 64 bits.
-fn bound_position(position: u64)
-    ensures { position ≤ last_position }
-{
-    let _position = position;
-}
-
-// The first key has a position and exponents that the code can hold. It does nothing: its contract is the law.
-fn bound_head(v: &Vect)
-    ensures { (n : ℕ) → HasBoundedHead (sum_of n v.now) }
-{
-    if let Some(lead) = v.lead() {
-        lead.key.monomial.bounds();
-        bound_position(lead.key.position);
     }
 }
 
@@ -103,49 +77,6 @@ fn next_divisor<F: Frame>(
         Some(divisor) => Ok(divisor),
         None => unreachable!(),
     }
-}
-
-// Stops where this product of two monomials, which is at hand, has too great a degree.
-fn test_degree(alloc: Global, a: &Mono, b: &Mono, product: &Mono) -> Result<(), VectStop>
-    requires { product.now.degree ≡ a.now.degree + b.now.degree }
-    ensures fits { OnOk result (a.now.degree + b.now.degree ≤ 65535) }
-    ensures stop { IfErr result (MonomialProductStops a.now b.now) }
-{
-    if product.degree() > MAX_DEGREE {
-        return Err(VectStop::Degree(a.try_copy(alloc)?, b.try_copy(alloc)?));
-    }
-    Ok(())
-}
-
-// What the term becomes where that multiple of a monic column is taken away of which it is the lead. The lead's product
-// cancels the term, so that the others alone are made.
-fn subtract_lead<F: Frame>(
-    alloc: Global,
-    frame: &F,
-    t: &Mono,
-    g: &Vect,
-    term: &(Key, u32),
-) -> Result<Vect, VectStop>
-    requires variables { IsMonomialOver (F.over frame.now) t.now }
-    requires divisor { IsVectorOver (F.over frame.now) (F.compare frame.now) g.now }
-    requires some { 0 < length g.now }
-    requires monic { (x : _ × ℕ) → x ≡ get_or g.now 0 x → x.1 ≡ 1 }
-    requires term_variables { IsMonomialOver (F.over frame.now) term.now.0.monomial }
-    requires nonzero { 0 < term.now.1 }
-    requires reduced { term.now.1 < (F.over frame.now).modulus.value }
-    requires lead { let n = variables (F.over frame.now) in shift (exponents_of n t.now.exponents) (head_key (sum_of n g.now)) ≡ key_of n term.now.0 }
-    ensures taken { let n = variables (F.over frame.now) in
-        IfOk result (λ r. IsSubtraction n (F.over frame.now).weights (F.over frame.now).modulus.value (F.compare frame.now n) t.now g.now 0
-        (term.now ∷ []) r term.now.1) }
-    ensures stop { IfErr result (SubtractionStops t.now g.now) }
-{
-    let modulus = &frame.ring().modulus;
-    modulus.domain();
-    let lead = &g.terms()[0];
-    test_degree(alloc, t, &lead.0.monomial, &term.0.monomial)?;
-    let rest = Vect::scaled_tail(alloc, frame, modulus.neg(term.1), t, g)?;
-    bound_head(&rest);
-    Ok(rest)
 }
 
 // Puts the terms of the vector that leads of the columns divide into the lists.
@@ -204,10 +135,9 @@ fn take_last<F: Frame>(
     )?;
     let g = &columns.as_slice()[at as usize];
     let taken = subtract_lead(alloc, frame, &monomial, g, &term);
-    let residue = term.1;
     drop(term);
     match taken {
-        Ok(rest) => {
+        Ok((rest, residue)) => {
             put_covered(alloc, frame, columns, index, rest, buckets)?;
             quotients.push(ScaledProduct {
                 index: at,

@@ -1,16 +1,16 @@
 // Products of columns over numbers of their keys, each made once for all columns of the next map.
-ghost use Rattle.std.specs.Prelude.{◌≡◌, ◌<◌, ◌++◌, ◌∷◌, [], List, ℕ, IfOk, OnOk, length};
+ghost use Rattle.std.specs.Prelude.{◌≡◌, ◌<◌, ◌++◌, ◌∷◌, [], IfOk, OnOk, length};
 ghost use Rattle.formal_sums.specs.FormalSums.{Each};
 ghost use Rattle.term_lists.specs.Rings.{variables};
 ghost use Rattle.term_lists.specs.Vectors.{IsMonomialOver};
 ghost use Rattle.vector_division.specs.Progress.{AreWeighed};
 ghost use Rattle.row_matrix.specs.Naming.{IsGrown};
 ghost use Rattle.row_matrix.specs.Rows.{AreKeys};
-ghost use Rattle.schreyer_resolution.specs.Pairs.{AreNonzero};
+ghost use Rattle.induced_leads.specs.Pairs.{AreNonzero};
+ghost use Rattle.induced_leads.specs.Spans.{IsIndexOf};
 ghost use Rattle.schreyer_resolution.specs.Sharing.{AreColumnHashes, AreReduced, IsLastProduct, IsProductEntries};
-ghost use Rattle.schreyer_resolution.specs.Spans.{IsIndexOf};
 
-use crate::divisors::{LeadIndex, last_divisor};
+use induced_leads::{LeadIndex, last_divisor};
 use module_vectors::{Key, NoMemory, Ring, Vect};
 use monomial_orders::Mono;
 use row_matrix::{KeyTable, ProductStop, TermHashes, kept_number, product_row};

@@ -8,19 +8,16 @@ ghost use Rattle.term_lists.specs.Vectors.{AreVectorsOver, HasPositions, IsMonom
 ghost use Rattle.term_lists.specs.declared.key.Key.{Key as KeyValue};
 ghost use Rattle.resolution_maps.specs.Inducing.{Columns, maps_of};
 ghost use Rattle.resolution_maps.specs.Resolved.{AreJoined, AreVectorsThrough, HavePositions, ResolutionStops, columns_of};
-ghost use Rattle.schreyer_resolution.specs.Columns.{AreColumnsTo, ColumnStops, IsAbove, IsBase};
-ghost use Rattle.schreyer_resolution.specs.Heads.{AreHeads};
+ghost use Rattle.induced_leads.specs.Heads.{AreHeads};
+ghost use Rattle.induced_leads.specs.Spans.{IsIndexOf};
+ghost use Rattle.induced_leads.specs.PairLeads.{ArePairLeads, IsBase};
+ghost use Rattle.schreyer_resolution.specs.Columns.{AreColumnsTo, ColumnStops, IsAbove};
 ghost use Rattle.schreyer_resolution.specs.Progress.{AreResolvedTo, IsNextMap, IsTopMap};
-ghost use Rattle.schreyer_resolution.specs.Spans.{IsIndexOf};
-ghost use Rattle.schreyer_resolution.specs.Steps.{ArePairLeads};
 
-use crate::Induced;
 use crate::column::column;
-use crate::divisors::{LeadIndex, index_leads};
-use crate::head::Heads;
-use crate::pair_leads::pair_leads;
 use crate::shared::shared_columns;
 use crate::sorting::sorted_columns;
+use induced_leads::{Heads, Induced, LeadIndex, index_leads, pair_leads};
 use module_vectors::{Frame, Key, NoMemory, Ring, VectList, WorkStop, lawful_setting};
 use resolution_maps::{Resolution, joined_maps, positions_of_zero};
 use std::alloc::Global;

@@ -8,17 +8,16 @@ ghost use Rattle.term_lists.specs.Vectors.{AreVectorsOver, IsMonomialOver, IsTer
 ghost use Rattle.vector_division.specs.Progress.{AreWeighed};
 ghost use Rattle.row_matrix.specs.Rows.{AreKeys};
 ghost use Rattle.resolution_maps.specs.Inducing.{tower_comparison};
-ghost use Rattle.schreyer_resolution.specs.Columns.{AreColumnsTo, IsAbove, IsBase};
-ghost use Rattle.schreyer_resolution.specs.Pairs.{AreNonzero};
+ghost use Rattle.induced_leads.specs.Pairs.{AreNonzero};
+ghost use Rattle.induced_leads.specs.Spans.{IsIndexOf};
+ghost use Rattle.induced_leads.specs.PairLeads.{ArePairLeads, IsBase};
+ghost use Rattle.schreyer_resolution.specs.Columns.{AreColumnsTo, IsAbove};
 ghost use Rattle.schreyer_resolution.specs.Sharing.{AreColumnHashes, AreColumnsMade, AreReduced, AreZeroSums, IsLastProduct, IsColumnMade, IsProductEntries};
-ghost use Rattle.schreyer_resolution.specs.Spans.{IsIndexOf};
-ghost use Rattle.schreyer_resolution.specs.Steps.{ArePairLeads};
 
-use crate::Induced;
 use crate::column::column_terms;
-use crate::divisors::LeadIndex;
 use crate::numbered::{Product, all_products, column_hashes, column_product, number_products};
 use crate::substituting::{Order, Work, no_work, place_at, quotients_of};
+use induced_leads::{Induced, LeadIndex};
 use module_vectors::{Frame, Key, NoMemory, Ring, Vect, VectList, lawful_setting};
 use row_matrix::{KeyTable, ProductStop, TermHashes, kept_number, number_columns};
 use std::alloc::Global;

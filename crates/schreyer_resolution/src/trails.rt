@@ -1,19 +1,19 @@
 // The trail of a column that meets a product of too great a degree.
 ghost use Rattle.std.specs.Prelude.{◌≡◌, ◌++◌, ◌∷◌, [], List, IfOk, OnOk, get_or, map};
+ghost use Rattle.monomial_orders.specs.Kept.{Monomial};
 ghost use Rattle.term_lists.specs.Rings.{variables};
 ghost use Rattle.term_lists.specs.Stops.{HasMonomial, IsTooGreat, ScaledStops};
 ghost use Rattle.term_lists.specs.Vectors.{AreVectorsOver, IsMonomialOver, key_of, sums_of};
 ghost use Rattle.term_lists.specs.declared.stop.VectStop.TheVariants.{Degree};
 ghost use Rattle.module_vectors.specs.Trails.{KeptProduct};
-ghost use Rattle.monomial_orders.specs.Kept.{Monomial};
 ghost use Rattle.vector_division.specs.Progress.{AreWeighed};
 ghost use Rattle.vector_division.specs.Reductions.{unscaled};
+ghost use Rattle.induced_leads.specs.Pairs.{AreNonzero};
+ghost use Rattle.induced_leads.specs.PairLeads.{IsBase, IsPairKey};
 ghost use Rattle.schreyer_resolution.specs.Chains.{IsColumnChain, IsFailing};
-ghost use Rattle.schreyer_resolution.specs.Columns.{ColumnStops, IsBase, IsColumnTrail, IsPartner, IsWhetherPair};
-ghost use Rattle.schreyer_resolution.specs.Pairs.{AreNonzero};
-ghost use Rattle.schreyer_resolution.specs.Steps.{IsPairKey};
+ghost use Rattle.schreyer_resolution.specs.Columns.{ColumnStops, IsColumnTrail, IsPartner, IsWhetherPair};
 
-use crate::pair_leads::{lead_key, pair_monomial};
+use induced_leads::{lead_key, pair_monomial};
 use module_vectors::{
     Frame, KeptTrail, Key, NoMemory, Ring, TrailStart, Vect, VectList, VectStop, WorkStop,
     lawful_setting,

@@ -6,8 +6,8 @@ use Rattle.term_lists.specs.Rings.{setting, variables}
 use Rattle.term_lists.specs.Vectors.{AreTermsOver, IsVectorOver, StandsFor, sum_of}
 use Rattle.vector_division.specs.declared.reduction.ScaledProduct.{ScaledProduct}
 use Rattle.resolution_maps.specs.Inducing.{tower_comparison}
+use Rattle.induced_leads.specs.Laws.{tower_order}
 use Rattle.schreyer_resolution.specs.Columns.{negated_term}
-use Rattle.schreyer_resolution.specs.Laws.{tower_order}
 use Rattle.schreyer_resolution.proofs.Making.{column_is, column_positions, terms_over}
 use Rattle.schreyer_resolution.proofs.column.column.Goals as goal
 

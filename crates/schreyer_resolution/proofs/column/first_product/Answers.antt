@@ -1,11 +1,11 @@
 use Rattle.std.proofs.Common.{[], ap, get_or, length, subst, subst₂, sym, ◌++◌, ◌<◌, ◌∙◌}
 use Rattle.std.proofs.lemmas.List.{get_or_default}
+use Rattle.monomials.specs.Exponents.{exponents_of}
+use Rattle.formal_sums.specs.FormalSums.{scale}
 use Rattle.term_lists.specs.Rings.{variables}
 use Rattle.term_lists.specs.Stops.{ScaledStops}
-use Rattle.formal_sums.specs.FormalSums.{scale}
-use Rattle.monomials.specs.Exponents.{exponents_of}
 use Rattle.term_lists.specs.Vectors.{IsVectorOver, StandsFor, sum_of}
-use Rattle.schreyer_resolution.proofs.LeastLeads.{each_at}
+use Rattle.induced_leads.proofs.LeastLeads.{each_at}
 use Rattle.schreyer_resolution.proofs.Trailing.{key_inside}
 use Rattle.schreyer_resolution.proofs.column.first_product.Goals as goal
 

@@ -3,8 +3,7 @@ use Rattle.term_lists.specs.Rings.{variables}
 use Rattle.term_lists.specs.Vectors.{IsMonomialOver, key_of}
 use Rattle.vector_division.proofs.Looping.{are_weighed}
 use Rattle.vector_division.specs.Progress.{AreWeighed}
-use Rattle.schreyer_resolution.specs.Columns.{IsFoundLast}
-use Rattle.schreyer_resolution.specs.Spans.{IsIndexOf}
+use Rattle.induced_leads.specs.Spans.{IsFoundLast, IsIndexOf}
 use Rattle.schreyer_resolution.proofs.Dividing.{divisible}
 use Rattle.schreyer_resolution.proofs.column.next_divisor.Goals as goal
 

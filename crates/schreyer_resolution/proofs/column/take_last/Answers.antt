@@ -4,21 +4,11 @@ use Rattle.term_lists.specs.Rings.{variables}
 use Rattle.term_lists.specs.Vectors.{IsVectorOver, key_of}
 use Rattle.vector_division.specs.Progress.{IsSubtraction}
 use Rattle.vector_division.specs.Runs.{total}
+use Rattle.induced_leads.proofs.LeastLeads.{each_at}
 use Rattle.schreyer_resolution.specs.Chains.{IsFailing}
 use Rattle.schreyer_resolution.specs.Columns.{IsColumnUnderway}
-use Rattle.schreyer_resolution.proofs.Dividing.{failing_is, one_first, rest_below, underway_next}
-use Rattle.schreyer_resolution.proofs.LeastLeads.{each_at}
+use Rattle.schreyer_resolution.proofs.Dividing.{failing_is, rest_below, underway_next}
 use Rattle.schreyer_resolution.proofs.column.take_last.Goals as goal
-
-pub subtract_lead-taken-requires-clause-monic : goal.subtract_lead-taken-requires-clause-monic
-subtract_lead-taken-requires-clause-monic g c = λ y e.
-    let ring = g.F.Frame.over c.args.frame.now in
-    let base = c.requires.base in
-    let cols = c.args.columns.now in
-    let x = c.index-as_slice-at.result in
-    let at = c.index-as_slice-at.is ∙ ap (λ l. get_or l c.in_ok-at.at x) c.as_slice.ensures ∙ get_or_default cols c.in_ok-at.at x [] c.in_ok-at.ensures.0.index in
-    one_first ring (g.F.Frame.compare c.args.frame.now) base.rank (c.lawful_setting.ensures base.rank) (g.met.F.Frame.laws c.args.frame.now (variables ring) 0) cols c.requires.vectors base.monic
-    c.in_ok-at.at y c.in_ok-at.ensures.0.index (e ∙ ap (λ v. get_or v 0 y) at)
 
 pub later_stop-requires-clause-failing : goal.later_stop-requires-clause-failing
 later_stop-requires-clause-failing g c = λ a last is.
@@ -46,8 +36,8 @@ returns-in_ok-push-in-Ok-clause-below g c =
     put.below (key_of n c.args.term.0) c.requires.below
     (rest_below ring compare base.rank (c.lawful_setting.ensures base.rank) (g.met.F.Frame.laws c.args.frame.now n 0) cols c.requires.vectors base.monic base.basis
     c.args.key.now c.requires.pair c.args.quotients.now.items c.args.term c.args.buckets.now c.requires.variables c.requires.nonzero c.requires.reduced c.requires.below c.requires.underway
-    (c.in_ok-at.at, c.in_ok-at.monomial) c.in_ok-at.ensures c.put_covered.new.buckets c.in-Ok.rest put.kept put.runs
-    (subst (λ v. IsSubtraction n ring.weights ring.modulus.value (compare n) c.in_ok-at.monomial v 0 (c.args.term ∷ []) c.in-Ok.rest c.args.term.1) at c.in-Ok.ensures.taken) put.sifted
+    (c.in_ok-at.at, c.in_ok-at.monomial) c.in_ok-at.ensures c.put_covered.new.buckets c.in-Ok.rest put.kept c.in-Ok.residue put.runs
+    (subst (λ v. IsSubtraction n ring.weights ring.modulus.value (compare n) c.in_ok-at.monomial v 0 (c.args.term ∷ []) c.in-Ok.rest c.in-Ok.residue) at c.in-Ok.ensures.taken) put.sifted
     put.sum)
 
 pub returns-in_ok-push-in-Ok-clause-underway : goal.returns-in_ok-push-in-Ok-clause-underway
@@ -63,8 +53,8 @@ returns-in_ok-push-in-Ok-clause-underway g c =
     subst (λ q. IsColumnUnderway ring compare cols c.args.key.now q c.put_covered.new.buckets (total n c.put_covered.new.buckets)) (sym c.in_ok-push-in-Ok.ensures.items)
     (underway_next ring compare base.rank (c.lawful_setting.ensures base.rank) (g.met.F.Frame.laws c.args.frame.now n 0) cols c.requires.vectors base.monic base.basis
     c.args.key.now c.requires.pair c.args.quotients.now.items c.args.term c.args.buckets.now c.requires.variables c.requires.nonzero c.requires.reduced c.requires.below c.requires.underway
-    (c.in_ok-at.at, c.in_ok-at.monomial) c.in_ok-at.ensures c.put_covered.new.buckets c.in-Ok.rest put.kept put.runs
-    (subst (λ v. IsSubtraction n ring.weights ring.modulus.value (compare n) c.in_ok-at.monomial v 0 (c.args.term ∷ []) c.in-Ok.rest c.args.term.1) at c.in-Ok.ensures.taken) put.sifted
+    (c.in_ok-at.at, c.in_ok-at.monomial) c.in_ok-at.ensures c.put_covered.new.buckets c.in-Ok.rest put.kept c.in-Ok.residue put.runs
+    (subst (λ v. IsSubtraction n ring.weights ring.modulus.value (compare n) c.in_ok-at.monomial v 0 (c.args.term ∷ []) c.in-Ok.rest c.in-Ok.residue) at c.in-Ok.ensures.taken) put.sifted
     put.sum)
 
 pub next_divisor-requires-clause-vectors : goal.next_divisor-requires-clause-vectors

@@ -3,8 +3,8 @@ use Rattle.formal_sums.proofs.WeightedSums.{Each_append}
 use Rattle.formal_sums.specs.FormalSums.{Each}
 use Rattle.term_lists.specs.Rings.{variables}
 use Rattle.term_lists.specs.Vectors.{key_of}
+use Rattle.induced_leads.specs.Spans.{IsFoundLast}
 use Rattle.schreyer_resolution.proofs.Rows.{last_found, products_more}
-use Rattle.schreyer_resolution.specs.Columns.{IsFoundLast}
 use Rattle.schreyer_resolution.specs.Sharing.{IsLastProduct}
 use Rattle.schreyer_resolution.specs.declared.numbered.Product.{Product}
 use Rattle.schreyer_resolution.proofs.numbered.push_product.Goals as goal

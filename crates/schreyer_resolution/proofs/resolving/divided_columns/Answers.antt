@@ -1,8 +1,8 @@
 use Rattle.std.proofs.Common.{arith, length, subst, subst₂, sym, ◌+◌, ◌≡◌}
 use Rattle.term_lists.specs.Rings.{variables}
 use Rattle.term_lists.specs.Vectors.{IsMonomialOver, sums_of}
+use Rattle.induced_leads.proofs.LeastLeads.{each_at}
 use Rattle.schreyer_resolution.specs.Columns.{AreColumnsTo}
-use Rattle.schreyer_resolution.proofs.LeastLeads.{each_at}
 use Rattle.schreyer_resolution.proofs.FirstMaps.{columns_next, pair_at}
 use Rattle.schreyer_resolution.proofs.Starting.{columns_none}
 use Rattle.schreyer_resolution.proofs.resolving.divided_columns.Goals as goal

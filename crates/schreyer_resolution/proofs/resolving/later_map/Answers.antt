@@ -5,10 +5,10 @@ use Rattle.term_lists.specs.Rings.{variables}
 use Rattle.term_lists.specs.Vectors.{IsMonomialOver, key_of, sums_of}
 use Rattle.resolution_maps.specs.Inducing.{tower_comparison}
 use Rattle.resolution_maps.proofs.Joining.{if_more}
+use Rattle.induced_leads.specs.Heads.{AreHeads}
+use Rattle.induced_leads.specs.PairLeads.{ArePairLeads}
 use Rattle.schreyer_resolution.specs.Columns.{AreColumnsTo, ColumnStops}
-use Rattle.schreyer_resolution.specs.Heads.{AreHeads}
 use Rattle.schreyer_resolution.specs.Progress.{IsNextMap}
-use Rattle.schreyer_resolution.specs.Steps.{ArePairLeads}
 use Rattle.schreyer_resolution.proofs.FirstMaps.{above_by, kept_heads, next_by, tower_is}
 use Rattle.schreyer_resolution.proofs.Starting.{base_at, vectors_at}
 use Rattle.schreyer_resolution.proofs.resolving.later_map.Goals as goal

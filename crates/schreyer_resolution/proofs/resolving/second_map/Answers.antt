@@ -4,9 +4,9 @@ use Rattle.term_lists.specs.Rings.{ring_comparison, variables}
 use Rattle.term_lists.specs.Vectors.{IsMonomialOver, key_of, sums_of}
 use Rattle.resolution_maps.specs.Inducing.{over}
 use Rattle.resolution_maps.proofs.Joining.{if_more}
+use Rattle.induced_leads.specs.PairLeads.{ArePairLeads}
 use Rattle.schreyer_resolution.specs.Columns.{AreColumnsTo}
 use Rattle.schreyer_resolution.specs.Progress.{IsNextMap}
-use Rattle.schreyer_resolution.specs.Steps.{ArePairLeads}
 use Rattle.schreyer_resolution.proofs.FirstMaps.{above_by, kept_heads, next_by, tower_is}
 use Rattle.schreyer_resolution.proofs.resolving.second_map.Goals as goal
 

@@ -3,10 +3,10 @@ use Rattle.std.proofs.Common.{ap, arith, length, subst, subst₂, sym, ◌+◌, 
 use Rattle.resolution_laws.specs.Resolutions.{IsExact}
 use Rattle.term_lists.specs.Rings.{variables}
 use Rattle.term_lists.specs.Vectors.{sums_of}
-use Rattle.schreyer_resolution.specs.Heads.{AreHeads}
+use Rattle.induced_leads.specs.Heads.{AreHeads}
+use Rattle.induced_leads.proofs.Pushing.{length-pushed}
 use Rattle.schreyer_resolution.specs.Progress.{AreResolvedTo, IsTopMap}
 use Rattle.schreyer_resolution.proofs.FirstMaps.{none_at_all, resolution_stop, resolved_more, some_at_all, some_map, split_unique, start_ended, start_full}
-use Rattle.schreyer_resolution.proofs.Pushing.{length-pushed}
 use Rattle.schreyer_resolution.proofs.resolving.start_behind.Goals as goal
 
 pub loop-init : goal.loop-init

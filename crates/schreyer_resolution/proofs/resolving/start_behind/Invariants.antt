@@ -3,7 +3,7 @@ use Rattle.std.proofs.Common.{List, [], length, ℕ, ◌++◌, ◌∷◌, ◌≡
 use Rattle.term_lists.specs.Rings.{variables}
 use Rattle.term_lists.specs.declared.key.Key.{Key as CodeKey}
 use Rattle.resolution_maps.specs.Inducing.{Columns}
-use Rattle.schreyer_resolution.specs.Heads.{AreHeads}
+use Rattle.induced_leads.specs.Heads.{AreHeads}
 use Rattle.schreyer_resolution.specs.Progress.{AreResolvedTo}
 use Rattle.schreyer_resolution.proofs.resolving.start_behind.Given as goal
 

@@ -5,12 +5,12 @@ use Rattle.term_lists.specs.Rings.{setting, variables}
 use Rattle.term_lists.specs.Vectors.{IsMonomialOver}
 use Rattle.vector_division.proofs.Looping.{are_weighed}
 use Rattle.vector_division.specs.Progress.{AreWeighed}
-use Rattle.schreyer_resolution.proofs.PairSteps.{base_leads}
+use Rattle.induced_leads.proofs.PairSteps.{base_leads}
+use Rattle.induced_leads.specs.Pairs.{AreNonzero}
+use Rattle.induced_leads.specs.Spans.{IsIndexOf}
 use Rattle.schreyer_resolution.proofs.SharedColumns.{columns_of_made, positions_of, vectors_reduced}
 use Rattle.schreyer_resolution.specs.Columns.{AreColumnsTo}
-use Rattle.schreyer_resolution.specs.Pairs.{AreNonzero}
 use Rattle.schreyer_resolution.specs.Sharing.{AreColumnsMade, AreReduced}
-use Rattle.schreyer_resolution.specs.Spans.{IsIndexOf}
 use Rattle.schreyer_resolution.proofs.shared.shared_columns.Goals as goal
 
 pub made_columns-made-requires-clause-frame : goal.made_columns-made-requires-clause-frame

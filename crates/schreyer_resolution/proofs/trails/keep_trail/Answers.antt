@@ -3,11 +3,11 @@ use Rattle.term_lists.specs.Rings.{setting, variables}
 use Rattle.term_lists.specs.Vectors.{IsMonomialOver, key_of, sums_of}
 use Rattle.vector_division.proofs.Looping.{are_weighed}
 use Rattle.vector_division.specs.Progress.{AreWeighed}
+use Rattle.induced_leads.specs.Pairs.{AreNonzero}
+use Rattle.induced_leads.specs.PairLeads.{IsPairKey}
+use Rattle.induced_leads.proofs.PairSteps.{base_leads}
 use Rattle.schreyer_resolution.specs.Columns.{IsPartner}
-use Rattle.schreyer_resolution.specs.Pairs.{AreNonzero}
-use Rattle.schreyer_resolution.specs.Steps.{IsPairKey}
 use Rattle.schreyer_resolution.proofs.Dividing.{some}
-use Rattle.schreyer_resolution.proofs.PairSteps.{base_leads}
 use Rattle.schreyer_resolution.proofs.Trailing.{column_trail}
 use Rattle.schreyer_resolution.proofs.trails.keep_trail.Goals as goal
 

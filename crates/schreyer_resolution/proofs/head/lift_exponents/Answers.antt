@@ -1,4 +1,0 @@
-use Rattle.schreyer_resolution.proofs.head.lift_exponents.Goals as goal
-
-pub add_exponents-requires : goal.add_exponents-requires
-add_exponents-requires c = c.requires

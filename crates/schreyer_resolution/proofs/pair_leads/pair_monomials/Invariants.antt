@@ -1,6 +1,0 @@
-use Rattle.term_lists.specs.Rings.{variables}
-use Rattle.schreyer_resolution.specs.Pairs.{ArePairMonomials}
-use Rattle.schreyer_resolution.proofs.pair_leads.pair_monomials.Given as goal
-
-abbrev pub invariant-loop-j : goal.invariant-loop-j
-invariant-loop-j l = ArePairMonomials (variables l.ring) l.ring.weights l.columns l.index l.j l.found.items
