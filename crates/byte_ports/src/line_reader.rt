@@ -1,6 +1,8 @@
 // The lines of a source, one after another, each as soon as its newline is read.
-ghost use Rattle.std.specs.Prelude.{◌≡◌, ◌<◌, ◌≤◌, ◌+◌, ◌-◌, true, [], ◌∷◌, ◌++◌, length, take, drop, vec_len, vec_capacity, Ok, Err, IfOk, OnErr, MatchOption, MatchResult};
-ghost use Rattle.std.specs.Io.KnownBytes.{Consumes, IsAtEnd, Keeps};
+ghost use Rattle.std.specs.Prelude.{◌≡◌, ◌<◌, ◌≤◌, ◌+◌, ◌-◌, true, [], ◌∷◌, ◌++◌, length, take, drop, vec_len, vec_capacity, Ok, Err, IfOk, MatchOption, MatchResult, ℕ, List, None, Some, IfSome};
+ghost use Rattle.std.specs.declared.option.Option.{Option};
+ghost use Rattle.std.specs.Io.{ReadsAtMost};
+ghost use Rattle.std.specs.Io.KnownBytes.{Consumes, IsAtEnd, Keeps, ReadConsumes};
 ghost use Rattle.byte_ports.specs.Causes.{CountsEmpty, HasCause, IsCounted};
 ghost use Rattle.byte_ports.specs.Lines.{Reading, HasNoNewline, NeedsMore, Answers, CountsEnd, CountsFaults, HasFaultCause, goes_on};
 
@@ -62,14 +64,6 @@ impl Model for Lines {
     ghost invariant = { λ s. (s.start ≤ s.end) × (s.end ≤ vec_len s.buffer) × (vec_len s.buffer ≡ 4096) };
 }
 
-/// What was moved from a piece to a line: its end with the newline, all that was held, or nothing, as too much is held.
-#[derive(Clone, Copy, Debug, PartialEq, Eq)]
-enum Moved {
-    Line,
-    All,
-    Long,
-}
-
 impl Lines {
     /// A reading from whose source nothing was taken yet, where so many bytes may stand in lines.
     pub fn new(alloc: Global, limit: usize) -> Result<Lines, NoMemory>
@@ -88,9 +82,10 @@ impl Lines {
     ///
     /// No call before this one answered anything but `Line`. The source is read only where no newline is held, and no more once a
     /// read moved nothing; what is read ahead is held for the calls that follow. `Last` and `End` come at the end of the input,
-    /// with the bytes behind the last newline or where there are none: one read moved nothing then, and else none did. `Long` comes exactly where more bytes were taken than may stand in
-    /// lines, and no newline stands among those that may and are in no line yet. `Fault` is one fault more of the source. `Memory`
-    /// comes only where `line` has not the capacity for all bytes that may still stand in lines.
+    /// with the bytes behind the last newline or where there are none: one read moved nothing then, and else none did. `Long` comes
+    /// exactly where more bytes were taken than may stand in lines, and no newline stands among those that may and are in no line
+    /// yet. `Fault` is one fault more of the source. `Memory` comes only where `line` has not the capacity for all bytes that may
+    /// still stand in lines.
     pub fn next<S: Source>(&mut self, source: &mut S, line: &mut Vec<u8>) -> Result<Next, LinesStop>
         requires is_open { self.old.is_open ≡ true }
         ensures answer { Answers self.old self.new (S.left source.old) (S.left source.new) line.new.items result }
@@ -120,10 +115,8 @@ impl Lines {
     {
         line.clear();
         match self.move_held(line) {
-            Ok(Moved::Line) => Ok(Next::Line),
-            Ok(Moved::Long) => Ok(Next::Long),
-            Ok(Moved::All) => self.read_on(source, line),
-            Err(_) => Err(LinesStop::Memory),
+            Some(answer) => answer,
+            None => self.read_on(source, line),
         }
     }
 
@@ -151,26 +144,23 @@ impl Lines {
                 return Ok(Next::Last);
             }
             match self.move_held(line) {
-                Ok(Moved::Line) => return Ok(Next::Line),
-                Ok(Moved::Long) => return Ok(Next::Long),
-                Ok(Moved::All) => {}
-                Err(_) => return Err(LinesStop::Memory),
+                Some(answer) => return answer,
+                None => {}
             }
         }
     }
 
     /// Moves the bytes before the next newline behind the line, or all that are held where none of them is a newline. The line has
-    /// none yet.
-    fn move_held(&mut self, line: &mut Vec<u8>) -> Result<Moved, NoMemory>
+    /// none yet. What the reading came to is the answer; there is none where the line goes on behind what was held.
+    fn move_held(&mut self, line: &mut Vec<u8>) -> Option<Result<Next, LinesStop>>
         requires room { length line.old.items ≤ self.old.room }
         requires line { HasNoNewline line.old.items }
-        ensures line { result ≡ Ok Moved.Line → (line.old.items ++ self.old.held ≡ line.new.items ++ 10 ∷ self.new.held)
-            × HasNoNewline line.new.items × (self.old.room ≡ length line.new.items + 1 + self.new.room) }
-        ensures all { result ≡ Ok Moved.All → (line.new.items ≡ line.old.items ++ self.old.held) × (self.new.held ≡ [])
+        ensures answer { IfSome result (λ answer. (left : Option (List ℕ)) →
+            Answers (record self.old { held = line.old.items ++ self.old.held }) self.new left left line.new.items answer) }
+        ensures unread { IfSome result (λ answer. (count : ℕ) → HasFaultCause count count answer × CountsFaults count count answer × CountsEnd count count answer) }
+        ensures all { result ≡ None → (line.new.items ≡ line.old.items ++ self.old.held) × (self.new.held ≡ [])
             × HasNoNewline line.new.items × (length line.new.items ≤ self.old.room) × (self.new.room ≡ self.old.room) }
-        ensures long { result ≡ Ok Moved.Long → (self.old.room < length (line.old.items ++ self.old.held))
-            × HasNoNewline (take self.old.room (line.old.items ++ self.old.held)) }
-        ensures memory { OnErr result (vec_capacity line.old < self.old.room) }
+        ensures memory { result ≡ Some (Err LinesStop.Memory) → vec_capacity line.old < self.old.room }
         ensures capacity { vec_capacity line.old ≤ vec_capacity line.new }
     {
         let room = self.room - line.len();
@@ -179,20 +169,20 @@ impl Lines {
             Some(at) => {
                 match line.extend_from_slice(&held[..at]) {
                     Ok(()) => {}
-                    Err(_) => return Err(NoMemory),
+                    Err(_) => return Some(Err(LinesStop::Memory)),
                 }
                 self.start += at + 1;
                 self.room = room - at - 1;
-                Ok(Moved::Line)
+                Some(Ok(Next::Line))
             }
-            None if held.len() > room => Ok(Moved::Long),
+            None if held.len() > room => Some(Ok(Next::Long)),
             None => {
                 match line.extend_from_slice(held) {
                     Ok(()) => {}
-                    Err(_) => return Err(NoMemory),
+                    Err(_) => return Some(Err(LinesStop::Memory)),
                 }
                 self.start = self.end;
-                Ok(Moved::All)
+                None
             }
         }
     }
@@ -207,12 +197,23 @@ impl Lines {
         ensures counted { IsCounted (S.faults source.old) (S.faults source.new) result }
         ensures empty { CountsEmpty (S.empty_reads source.old) (S.empty_reads source.new) result }
     {
+        let read = read_piece(source, &mut self.buffer);
         self.start = 0;
-        self.end = 0;
-        let count = source.read(&mut self.buffer)?;
-        self.end = count;
-        Ok(count)
+        self.end = read.unwrap_or(0);
+        read
     }
+}
+
+/// A read into a vector, whose length stays as it is.
+fn read_piece<S: Source>(source: &mut S, buffer: &mut Vec<u8>) -> Result<usize, Failed>
+    ensures kept { vec_len buffer.new ≡ vec_len buffer.old }
+    ensures bound { ReadsAtMost result buffer.new.items }
+    ensures bytes { ReadConsumes (S.left source.old) (S.left source.new) result buffer.new.items }
+    ensures cause { HasCause (S.faults source.old) (S.faults source.new) result }
+    ensures counted { IsCounted (S.faults source.old) (S.faults source.new) result }
+    ensures empty { CountsEmpty (S.empty_reads source.old) (S.empty_reads source.new) result }
+{
+    source.read(buffer)
 }
 
 /// A line came, so there may be more.

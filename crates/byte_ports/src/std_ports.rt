@@ -8,9 +8,6 @@ use crate::{Failed, Sink, Source};
 use std::io;
 use std::io::{ErrorKind, Read, Write};
 
-#[cfg(test)]
-mod std_tests;
-
 /// One read. An error that is no interruption is counted.
 fn read_once<R: Read>(reader: &mut R, faults: &mut u64, into: &mut [u8]) -> io::Result<usize>
     ensures bound { ReadsAtMost result into.new }
@@ -114,6 +111,19 @@ impl<R: Read + Drop> StdSource<R> {
             empty: 0,
         }
     }
+
+    /// The reader, and how many faults there were so far.
+    pub fn into_parts(self) -> (R, u64)
+        ensures reader { result.0 ≡ self.inner }
+        ensures faults { result.1 ≡ self.faults }
+    {
+        let StdSource {
+            inner,
+            faults,
+            empty: _,
+        } = self;
+        (inner, faults)
+    }
 }
 
 impl<R: Read + Drop> Source for StdSource<R> {
@@ -159,6 +169,15 @@ impl<W: Write + Drop> StdSink<W> {
         ensures faults { result.faults ≡ 0 }
     {
         StdSink { inner, faults: 0 }
+    }
+
+    /// The writer, and how many faults there were so far.
+    pub fn into_parts(self) -> (W, u64)
+        ensures writer { result.0 ≡ self.inner }
+        ensures faults { result.1 ≡ self.faults }
+    {
+        let StdSink { inner, faults } = self;
+        (inner, faults)
     }
 }
 

@@ -1,5 +1,5 @@
-//! Tests of the small crates: tokens, the generated script, gates, lanes, claims. They stand apart from these crates, so that
-//! none of them is proved once more with its tests.
+//! Tests of the small crates: tokens, the generated script, gates, lanes, claims, ports of the system. They stand apart from these
+//! crates, so that none of them is proved once more with its tests.
 #![tactic(auto)]
 
 #[cfg(test)]
@@ -10,5 +10,7 @@ mod gates;
 mod generated;
 #[cfg(test)]
 mod lanes;
+#[cfg(test)]
+mod ports;
 #[cfg(test)]
 mod tokens;

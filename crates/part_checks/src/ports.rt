@@ -1,6 +1,8 @@
 // A reader and a writer that fail at calls that they are told: each error is one fault, and no other call is.
-use super::*;
+use byte_ports::{Failed, Sink, Source, StdSink, StdSource};
 use std::alloc::Global;
+use std::io;
+use std::io::{ErrorKind, Read, Write};
 use std::test::Fail;
 
 /// What a call does: it moves so many bytes, or gives an error of this kind.
@@ -59,7 +61,7 @@ const ACTS: [Act; 9] = [
     Act::Moves(3),
 ];
 
-/// An answer, the faults, and the calls of the reader or the writer, after each call.
+/// The answer of a call, and the faults and the calls of the reader or the writer after it.
 type Row = (Result<usize, Failed>, u64, usize);
 
 const READS: [Row; 8] = [
@@ -73,17 +75,41 @@ const READS: [Row; 8] = [
     (Ok(0), 4, 10),
 ];
 
-#[test]
-fn errors_alone_are_faults(rt: HostRuntime) -> Result<(), Fail> {
+/// What stands in the row after so many reads and one more.
+fn after_reads(count: usize) -> Row {
     let told = Told {
         acts: ACTS.as_slice(),
         calls: 0,
     };
     let mut source = StdSource::new(told);
     let mut into = [0u8; 4];
-    for (answer, faults, calls) in READS {
-        assert_eq!(rt; source.read(&mut into), answer);
-        assert_eq!(rt; (source.faults, source.inner.calls), (faults, calls));
+    for _ in 0..count {
+        let _ = source.read(&mut into);
+    }
+    let answer = source.read(&mut into);
+    let (reader, faults) = source.into_parts();
+    (answer, faults, reader.calls)
+}
+
+/// What stands in the row after so many writes of these bytes and one more.
+fn after_writes(count: usize, last: &[u8]) -> Row {
+    let told = Told {
+        acts: ACTS.as_slice(),
+        calls: 0,
+    };
+    let mut sink = StdSink::new(told);
+    for _ in 0..count {
+        let _ = sink.write(b"abcd");
+    }
+    let answer = sink.write(last);
+    let (writer, faults) = sink.into_parts();
+    (answer, faults, writer.calls)
+}
+
+#[test]
+fn errors_alone_are_faults(rt: HostRuntime) -> Result<(), Fail> {
+    for count in 0..READS.len() {
+        assert_eq!(rt; after_reads(count), READS[count]);
     }
     Ok(())
 }
@@ -91,19 +117,13 @@ fn errors_alone_are_faults(rt: HostRuntime) -> Result<(), Fail> {
 /// As of reads, but that a write of bytes that takes none is a fault.
 #[test]
 fn errors_and_writes_of_nothing_are_faults(rt: HostRuntime) -> Result<(), Fail> {
-    let told = Told {
-        acts: ACTS.as_slice(),
-        calls: 0,
-    };
-    let mut sink = StdSink::new(told);
-    for (answer, faults, calls) in READS {
-        let (answer, faults) = match answer {
-            Ok(0) => (Err(Failed), 5),
-            answer => (answer, faults),
+    for count in 0..READS.len() {
+        let wanted = match READS[count] {
+            (Ok(0), _, calls) => (Err(Failed), 5, calls),
+            row => row,
         };
-        assert_eq!(rt; sink.write(b"abcd"), answer);
-        assert_eq!(rt; (sink.faults, sink.inner.calls), (faults, calls));
+        assert_eq!(rt; after_writes(count, b"abcd"), wanted);
     }
-    assert_eq!(rt; sink.write(b""), Ok(0));
+    assert_eq!(rt; after_writes(READS.len(), b""), (Ok(0), 5, 11));
     Ok(())
 }
