@@ -17,6 +17,7 @@ pub mod LeadRows
 pub mod MetPairs
 pub mod ProperDivisors
 pub mod NewFates
+pub mod PassedPairs
 pub mod FirstYields
 pub mod CopiedPairs
 pub mod StayingPairs

@@ -1,5 +1,5 @@
 -- The first exponents of monomials, side by side
-use Rattle.std.specs.Prelude.{Bool, List, [], length, ltb, map, replicate, suc, zero, ℕ, ◌++◌, ◌-◌, ◌∷◌}
+use Rattle.std.specs.Prelude.{Bool, List, [], bit_and, length, ltb, map, replicate, slice_index, suc, zero, ℕ, ◌++◌, ◌-◌, ◌<◌, ◌∷◌, ◌≡◌, ◌≤◌}
 use Rattle.std.specs.Simd.Lanes.{mask_l, zip2}
 use Rattle.monomials.specs.Exponents.{Exponents, cons, exponents_of, nil}
 use Rattle.bases.specs.Leads.{leads}
@@ -35,3 +35,7 @@ exceeding xs ys = ((exceeds_by 16 0 xs ys ++ exceeds_by 16 1 xs ys) ++ exceeds_b
 -- the number whose bits say in which of the first sixteen variables lead i exceeds lead h so
 abbrev pub bits_above : LeadsShown → (i h : ℕ) → ℕ
 bits_above m i h = mask_l (exceeding (lead_row m i) (lead_row m h))
+
+-- from this place on, and before `end`, each word has one of the missing bits
+abbrev pub EachHasMissing : List ℕ → ℕ → ℕ → ℕ → Type 0
+EachHasMissing words missing from end = (i : ℕ) → from ≤ i → i < end → bit_and (slice_index words i) missing ≡ 0 → ⊥

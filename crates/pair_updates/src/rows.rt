@@ -2,7 +2,7 @@
 ghost use Rattle.std.specs.Prelude.{ℕ, ◌≡◌, ◌<◌, ◌≤◌, ◌↔◌, ◌-◌, IsTrue, bit_and, length, ltb, max, slice_index};
 ghost use Rattle.std.specs.Simd.Lanes.{mask_l, zip2};
 ghost use Rattle.monomials.specs.Exponents.{exponents_of};
-ghost use Rattle.pair_updates.specs.Rows.{exceeding, row};
+ghost use Rattle.pair_updates.specs.Rows.{EachHasMissing, exceeding, row};
 
 use monomial_orders::Mono;
 use std::simd::prelude::*;
@@ -68,4 +68,48 @@ pub(crate) fn is_within(a: u64, b: u64) -> bool
     ensures { IsTrue result ↔ (bit_and a b ≡ a) }
 {
     a & b == a
+}
+
+// The first word from this place on that has none of the missing bits; the number of words where there is none.
+fn within_in_turn(words: &[u64], from: usize, missing: u64) -> usize
+    requires { from ≤ length words.now }
+    ensures late { from ≤ result }
+    ensures bound { result ≤ length words.now }
+    ensures before { EachHasMissing words.now missing from result }
+    ensures found { result < length words.now → bit_and (slice_index words.now result) missing ≡ 0 }
+{
+    for i in from..words.len() {
+        if words[i] & missing == 0 {
+            return i;
+        }
+    }
+    words.len()
+}
+
+/// The first word from this place on that has none of the missing bits; the number of words where there is none. Most words have one,
+/// and there are many: so the loop looks at four in each turn.
+pub(crate) fn next_within(words: &[u64], from: usize, missing: u64) -> usize
+    requires { from ≤ length words.now }
+    ensures late { from ≤ result }
+    ensures bound { result ≤ length words.now }
+    ensures before { EachHasMissing words.now missing from result }
+    ensures found { result < length words.now → bit_and (slice_index words.now result) missing ≡ 0 }
+{
+    let mut i = from;
+    while words.len() - i > 3 {
+        if words[i] & missing == 0 {
+            return i;
+        }
+        if words[i + 1] & missing == 0 {
+            return i + 1;
+        }
+        if words[i + 2] & missing == 0 {
+            return i + 2;
+        }
+        if words[i + 3] & missing == 0 {
+            return i + 3;
+        }
+        i += 4;
+    }
+    within_in_turn(words, i, missing)
 }

@@ -1,13 +1,14 @@
 // To which pair of its new member each new pair yields first (Gebauer and Möller 1988).
 ghost use Rattle.std.specs.Prelude.{IfOk, OnOk, List, MatchOption, None, Option, Some, length, ℕ, ◌+◌, ◌<◌, ◌≡◌};
 ghost use Rattle.std.specs.Vec.{vec_capacity, vec_len};
-ghost use Rattle.pair_updates.specs.Dropping.{AreNewPairs};
+ghost use Rattle.pair_updates.specs.Dropping.{AreNewPairs, IsPairWithBits};
 ghost use Rattle.pair_updates.specs.FirstYields.{AreActive, AreFirstYields, AreLowerYields, AreSettled, IsFirstAmong};
 ghost use Rattle.pair_updates.specs.Leads.{sums_shown};
 
 use crate::dropping::yields_to;
 use crate::leads::Leads;
 use crate::meeting::NewPair;
+use crate::rows::next_within;
 use module_vectors::NoMemory;
 use std::alloc::Global;
 
@@ -41,6 +42,35 @@ impl Drop for Active {
     }
 }
 
+// The first of these members, from index `from` on, to whose pair with the same new one the given pair yields.
+fn first_yield(
+    leads: &Leads,
+    pair: &NewPair,
+    members: &[usize],
+    above: &[u64],
+    from: usize,
+) -> Option<usize>
+    requires pair { IsPairWithBits leads.now pair.now }
+    requires active { AreActive leads.now pair.now.j members.now above.now }
+    ensures { IsFirstAmong (sums_shown leads.now) pair.now.j pair.now.i members.now from result }
+{
+    // A pair whose word has a bit that this one lacks is passed over by its word alone.
+    let missing = !pair.above;
+    let mut k = from;
+    while k < above.len() {
+        k = next_within(above, k, missing);
+        if k == above.len() {
+            return None;
+        }
+        let member = members[k];
+        if yields_to(leads, pair, member, above[k]) {
+            return Some(member);
+        }
+        k += 1;
+    }
+    None
+}
+
 // The first of the active members, from index `from` on, to whose pair that of i yields.
 fn first_among(
     leads: &Leads,
@@ -56,14 +86,7 @@ fn first_among(
 {
     match &news[i] {
         None => None,
-        Some(pair) => {
-            for k in from..active.above.len() {
-                if yields_to(leads, pair, active.members[k], active.above[k]) {
-                    return Some(active.members[k]);
-                }
-            }
-            None
-        }
+        Some(pair) => first_yield(leads, pair, &active.members, &active.above, from),
     }
 }
 
