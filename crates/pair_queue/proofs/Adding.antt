@@ -288,6 +288,11 @@ front (k ∷ ks) more = ap (λ l. k ∷ l) (front ks more)
 pub leads_back : (l : LeadsShown) (more : List CodeKey) (first : ℕ) → first ≡ length l.keys → record l { keys = take first (l.keys ++ more) } ≡ l
 leads_back l more first e = λ t. record l { keys = (ap (λ k. take k (l.keys ++ more)) e ∙ front l.keys more) t }
 
+-- of more leads the first are those before
+pub leads_cut : (l new : LeadsShown) (more : List CodeKey) (first : ℕ) → new ≡ record l { keys = l.keys ++ more } → first ≡ length l.keys
+    → record new { keys = take first new.keys } ≡ l
+leads_cut l new more first is e = ap (λ (z : LeadsShown). record z { keys = take first z.keys }) is ∙ leads_back l more first e
+
 pub reals_added : (l : LeadsShown) (more : List CodeKey) (xs : List CodePair) → Each (IsRealPair l) xs
     → Each (IsRealPair (record l { keys = l.keys ++ more })) xs
 reals_added l more xs h =

@@ -18,11 +18,13 @@ use Rattle.pair_updates.proofs.SameLeads.{each_counted}
 use Rattle.pair_updates.specs.declared.dropped.Dropped.{Dropped}
 use Rattle.pair_queue.specs.declared.out.Out.{Out}
 use Rattle.pair_queue.specs.declared.pairs.PairQueue.TheInside.{Inside}
+use Rattle.pair_queue.specs.declared.reach.Reach.{Reach}
 use Rattle.pair_queue.specs.Inside.{IsCoherent}
 use Rattle.pair_updates.specs.Leads.{LeadsShown, setting_of_leads, sums_shown}
 use Rattle.pair_updates.specs.Pairs.{IsRealPair, pairs_of, AreIndices}
 use Rattle.pair_queue.specs.Outs.{outs_of}
 use Rattle.pair_queue.specs.Queues.{QueueShown}
+use Rattle.pair_queue.specs.Reaches.{IsReach}
 use Rattle.pair_queue.specs.Skipping.{AreSkipped, IsKnown}
 use Rattle.pair_queue.specs.Tables.{HasSameFlags, IsFlagTable, TableShown, flag, member_count}
 
@@ -79,6 +81,7 @@ given_coherent i skipped left k w queue out waits due kept skips real sorted kno
           (sorted_behind (setting_of_leads m.variables m) (sums_shown m) k (pairs_of left) sorted);
       within = subst (λ (l : List (Pair × ℕ)). Each (AreIndices (length m.keys)) (pairs_out l)) (sym outs)
           (given_within (AreIndices (length m.keys)) (pairs_of left) (outs_of i.out.items) w k (indices_queued m left real) kept.within);
+      reach = kept.reach;
       waits_size = waits_size;
       due_size = due_size;
       table = λ e. subst (λ (z : List Pair × List (Pair × ℕ)). IsFlagTable (flag waits) z.0 z.1) (λ t. (sym pairs t, sym outs t))
@@ -88,15 +91,16 @@ given_coherent i skipped left k w queue out waits due kept skips real sorted kno
 
 -- what is kept where nothing changed that contracts see
 pub same_coherent :
-    (i : Inside) (leads : LeadsShown) (queue : QueueShown) (dropped : Vec Dropped Global) (waits due : TableShown)
-    → leads ≡ i.leads → queue.items ≡ i.queue.items → HasSameFlags i.waits waits → HasSameFlags i.due due
-    → IsCoherent i → IsCoherent (record i { leads = leads; queue = queue; dropped = dropped; waits = waits; due = due })
-same_coherent i leads queue dropped waits due l q w d h =
-    subst (λ (z : LeadsShown × QueueShown). IsCoherent (record i { leads = z.0; queue = z.1; dropped = dropped; waits = waits; due = due }))
+    (i : Inside) (leads : LeadsShown) (queue : QueueShown) (dropped : Vec Dropped Global) (reach : Reach) (waits due : TableShown)
+    → leads ≡ i.leads → queue.items ≡ i.queue.items → (i.update ≡ Plain → IsReach i.leads reach) → HasSameFlags i.waits waits → HasSameFlags i.due due
+    → IsCoherent i → IsCoherent (record i { leads = leads; queue = queue; dropped = dropped; reach = reach; waits = waits; due = due })
+same_coherent i leads queue dropped reach waits due l q r w d h =
+    subst (λ (z : LeadsShown × QueueShown). IsCoherent (record i { leads = z.0; queue = z.1; dropped = dropped; reach = reach; waits = waits; due = due }))
     (λ t. (sym l t, record { items = sym q t })) (record {
       real = h.real;
       sorted = h.sorted;
       within = h.within;
+      reach = r;
       waits_size = λ e. w.sizes ∙ h.waits_size e;
       due_size = λ e. d.sizes ∙ h.due_size e;
       table = λ e. record { flags = λ x. ap (λ b. cond b 1 0) (w.flags x) ∙ (h.table e).flags x };

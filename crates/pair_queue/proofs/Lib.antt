@@ -4,7 +4,7 @@ pub mod Passing
 pub mod SameLcm
 pub mod Clearing
 pub mod OutPairs
-pub mod Gapped
+pub mod Reaching
 pub mod Mirroring
 pub mod Words
 pub mod Putting

@@ -50,7 +50,7 @@ zeros k i = go (cases_lt i k)
     go (inl l) = get_or-replicate k i 0 0 l
     go (inr l) = get_or_past (replicate k 0) i 0 (omega (arith, l, length-replicate {A = ℕ} k 0))
 
-words_more : (words : List ℕ) (k i : ℕ) → get_or (words ++ replicate k 0) i 0 ≡ get_or words i 0
+pub words_more : (words : List ℕ) (k i : ℕ) → get_or (words ++ replicate k 0) i 0 ≡ get_or words i 0
 words_more [] k i = zeros k i ∙ sym (get_or_past [] i 0 (omega arith))
 words_more (w ∷ words) k zero = refl
 words_more (w ∷ words) k (suc i) = words_more words k i

@@ -3,7 +3,7 @@ pub mod Queues
 pub mod Rows
 pub mod Tables
 pub mod Skipping
-pub mod Gaps
+pub mod Reaches
 pub mod Giving
 pub mod Inside
 pub mod Shown

@@ -9,11 +9,13 @@ ghost use Rattle.queue_updates.specs.declared.Update.TheVariants as updates;
 ghost use Rattle.pair_queue.specs.Giving.{HasCleared};
 ghost use Rattle.pair_queue.specs.Outs.{outs_of};
 ghost use Rattle.pair_updates.specs.Pairs.{pairs_of, AreIndices};
+ghost use Rattle.pair_queue.specs.Reaches.{IsReach};
 ghost use Rattle.pair_queue.specs.Skipping.{IsKnown};
 ghost use Rattle.pair_queue.specs.Tables.{IsFlagTable, flag, member_count};
 
 use crate::closing::pass;
 use crate::out::Out;
+use crate::reach::Reach;
 use crate::table::Table;
 use pair_criteria::Pair;
 use pair_updates::Leads;
@@ -38,8 +40,16 @@ pub(crate) fn give(worker: u32, pairs: &[Pair], out: &mut Vec<Out>, given: &mut 
 }
 
 // The pairs of the worker wait no more.
-fn pass_all(worker: u32, out: &[Out], leads: &Leads, waits: &mut Table, due: &mut Table)
+fn pass_all(
+    worker: u32,
+    out: &[Out],
+    leads: &Leads,
+    reach: &Reach,
+    waits: &mut Table,
+    due: &mut Table,
+)
     requires within { Each (λ o. AreIndices (length leads.now.keys) (o.i, o.j)) out.now }
+    requires reach { IsReach leads.now reach.now }
     requires waits { member_count waits.old ≡ length leads.now.keys }
     requires due { member_count due.old ≡ length leads.now.keys }
     ensures waits_size { member_count waits.new ≡ member_count waits.old }
@@ -50,14 +60,22 @@ fn pass_all(worker: u32, out: &[Out], leads: &Leads, waits: &mut Table, due: &mu
 {
     for o in out {
         if o.worker == worker {
-            pass(leads, waits, due, o.i as usize, o.j as usize);
+            pass(leads, reach, waits, due, o.i as usize, o.j as usize);
         }
     }
 }
 
 // The pairs of the worker are out no more, nor do they wait. It takes no memory.
-fn close_job(worker: u32, out: &mut Vec<Out>, leads: &Leads, waits: &mut Table, due: &mut Table)
+fn close_job(
+    worker: u32,
+    out: &mut Vec<Out>,
+    leads: &Leads,
+    reach: &Reach,
+    waits: &mut Table,
+    due: &mut Table,
+)
     requires within { Each (λ o. AreIndices (length leads.now.keys) (o.i, o.j)) out.old.items }
+    requires reach { IsReach leads.now reach.now }
     requires waits { member_count waits.old ≡ length leads.now.keys }
     requires due { member_count due.old ≡ length leads.now.keys }
     ensures out { outs_of out.new.items ≡ with_others worker (outs_of out.old.items) }
@@ -68,7 +86,7 @@ fn close_job(worker: u32, out: &mut Vec<Out>, leads: &Leads, waits: &mut Table, 
     ensures known { (queue : List PlainPair) → Each (AreIndices (length leads.now.keys)) queue → IsFlagTable (flag waits.old) queue (outs_of out.old.items)
         → Each (IsKnown leads.now (flag waits.old) (flag due.old)) queue → Each (IsKnown leads.now (flag waits.new) (flag due.new)) queue }
 {
-    pass_all(worker, out, leads, waits, due);
+    pass_all(worker, out, leads, reach, waits, due);
     out.retain(|o| o.worker != worker);
 }
 
@@ -78,10 +96,12 @@ pub(crate) fn close_by_update(
     worker: u32,
     out: &mut Vec<Out>,
     leads: &Leads,
+    reach: &Reach,
     waits: &mut Table,
     due: &mut Table,
 )
     requires within { Each (λ o. AreIndices (length leads.now.keys) (o.i, o.j)) out.old.items }
+    requires reach { update ≡ updates.Plain → IsReach leads.now reach.now }
     requires waits { update ≡ updates.Plain → member_count waits.old ≡ length leads.now.keys }
     requires due { update ≡ updates.Plain → member_count due.old ≡ length leads.now.keys }
     ensures out { outs_of out.new.items ≡ with_others worker (outs_of out.old.items) }
@@ -94,7 +114,7 @@ pub(crate) fn close_by_update(
         → Each (IsKnown leads.now (flag waits.old) (flag due.old)) queue → Each (IsKnown leads.now (flag waits.new) (flag due.new)) queue }
 {
     match update {
-        Update::Plain => close_job(worker, out, leads, waits, due),
+        Update::Plain => close_job(worker, out, leads, reach, waits, due),
         Update::Gebauer => out.retain(|o| o.worker != worker),
     }
 }

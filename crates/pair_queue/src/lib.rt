@@ -10,6 +10,7 @@ mod out;
 mod pairs;
 mod queue;
 mod queueing;
+mod reach;
 mod row;
 mod sharing;
 mod skipping;

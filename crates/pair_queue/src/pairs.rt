@@ -15,6 +15,7 @@ use crate::giving::{close_by_update, give};
 use crate::out::Out;
 use crate::queue::{Queue, blank_pairs};
 use crate::queueing::queue_by;
+use crate::reach::Reach;
 use crate::sharing::share_of;
 use crate::skipping::skip_by;
 use crate::table::Table;
@@ -35,7 +36,9 @@ pub struct PairQueue {
     out: Vec<Out>,
     update: Update,
     dropped: Vec<Dropped>,
-    // Both have flags where new members drop no pairs. Which pairs wait, in the queue or out.
+    // These three are kept where new members drop no pairs. Which leads reach an exponent.
+    reach: Reach,
+    // Which pairs wait, in the queue or out.
     waits: Table,
     // Of the queued pairs those to which no criterion applies; what it says of others is not read.
     due: Table,
@@ -50,6 +53,7 @@ impl Drop for PairQueue {
             out: _,
             update: _,
             dropped: _,
+            reach: _,
             waits: _,
             due: _,
         } = self;
@@ -97,6 +101,7 @@ impl PairQueue {
             out: Vec::new(alloc),
             update,
             dropped: Vec::new(alloc),
+            reach: Reach::new(alloc),
             waits: Table::new(alloc),
             due: Table::new(alloc),
         }
@@ -124,6 +129,7 @@ impl PairQueue {
             first,
             &mut self.queue,
             &mut self.dropped,
+            &mut self.reach,
             &mut self.waits,
             &mut self.due,
         ) {
@@ -163,6 +169,7 @@ impl PairQueue {
         skip_by(
             self.update,
             &self.leads,
+            &self.reach,
             &mut self.waits,
             &mut self.due,
             &mut self.queue,
@@ -199,6 +206,7 @@ impl PairQueue {
             worker,
             &mut self.out,
             &self.leads,
+            &self.reach,
             &mut self.waits,
             &mut self.due,
         );

@@ -9,11 +9,13 @@ ghost use Rattle.queue_updates.specs.declared.Update.TheVariants as updates;
 ghost use Rattle.pair_updates.specs.Dropping.{drops_of};
 ghost use Rattle.pair_updates.specs.Leads.{lead_sums, setting_of_leads, sums_shown};
 ghost use Rattle.pair_updates.specs.Pairs.{IsRealPair, pairs_of, AreIndices};
+ghost use Rattle.pair_queue.specs.Reaches.{IsReach};
 ghost use Rattle.pair_queue.specs.Skipping.{IsKnown};
 ghost use Rattle.pair_queue.specs.Tables.{HasSameFlags, IsFlagTable, flag, member_count};
 
 use crate::flags::flag_pairs;
 use crate::queue::Queue;
+use crate::reach::Reach;
 use crate::table::Table;
 use module_vectors::NoMemory;
 use pair_updates::{Dropped, Leads, merge, new_pairs, sort_pairs, updated};
@@ -93,8 +95,8 @@ pub(crate) fn queue_new_pairs(
     Ok(())
 }
 
-/// The members from number `first` on come: all their pairs are queued, and flagged; or the update with each of them is done.
-/// After an error all is as before.
+/// The members from number `first` on come: the exponents that their leads reach are told, and all their pairs are queued, and flagged;
+/// or the update with each of them is done. After an error all is as before, but for bits of the new members.
 pub(crate) fn queue_by(
     alloc: Global,
     update: Update,
@@ -102,6 +104,7 @@ pub(crate) fn queue_by(
     first: usize,
     queue: &mut Queue,
     dropped: &mut Vec<Dropped>,
+    reach: &mut Reach,
     waits: &mut Table,
     due: &mut Table,
 ) -> Result<(), NoMemory>
@@ -109,12 +112,14 @@ pub(crate) fn queue_by(
     requires real { Each (IsRealPair leads.now) queue.old.items }
     requires within { Each (AreIndices first) (pairs_of queue.old.items) }
     requires sorted { IsSorted (setting_of_leads leads.now.variables leads.now) (sums_shown leads.now) (pairs_of queue.old.items) }
+    requires reach { update ≡ updates.Plain → IsReach (record leads.now { keys = take first leads.now.keys }) reach.old }
     requires waits { update ≡ updates.Plain → member_count waits.old ≡ first }
     requires due { update ≡ updates.Plain → member_count due.old ≡ first }
     ensures real { OnOk result (Each (IsRealPair leads.now) queue.new.items) }
     ensures queues { OnOk result (QueuesPairs update (setting_of_leads leads.now.variables leads.now) first (sums_shown leads.now)
         (pairs_of queue.old.items) (drops_of dropped.old.items) (pairs_of queue.new.items) (drops_of dropped.new.items)) }
     ensures sorted { OnOk result (IsSorted (setting_of_leads leads.now.variables leads.now) (sums_shown leads.now) (pairs_of queue.new.items)) }
+    ensures reach { OnOk result (update ≡ updates.Plain → IsReach leads.now reach.new) }
     ensures waits { OnOk result (update ≡ updates.Plain → member_count waits.new ≡ length leads.now.keys) }
     ensures due { OnOk result (update ≡ updates.Plain → member_count due.new ≡ length leads.now.keys) }
     ensures table { OnOk result (update ≡ updates.Plain → (out : List (PlainPair × ℕ)) → Each (AreIndices first) (pairs_out out)
@@ -124,11 +129,13 @@ pub(crate) fn queue_by(
         → Each (IsKnown leads.now (flag waits.new) (flag due.new)) (pairs_of queue.new.items)) }
     ensures queue_kept { OnErr result (queue.new.items ≡ queue.old.items) }
     ensures dropped_kept { OnErr result (dropped.new.items ≡ dropped.old.items) }
+    ensures reach_kept { OnErr result (update ≡ updates.Plain → IsReach (record leads.now { keys = take first leads.now.keys }) reach.new) }
     ensures waits_kept { OnErr result (HasSameFlags waits.old waits.new) }
     ensures due_kept { OnErr result (HasSameFlags due.old due.new) }
 {
     match update {
         Update::Plain => {
+            reach.add(leads, first)?;
             queue_new_pairs(alloc, leads, first, queue, waits, due)?;
             Ok(())
         }

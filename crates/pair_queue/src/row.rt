@@ -37,8 +37,8 @@ fn word_at(words: &[u64], index: usize) -> u64
     if index < words.len() { words[index] } else { 0 }
 }
 
-// The word with the flag at this place set, or taken away.
-fn with_flag(word: u64, place: usize, set: bool) -> u64
+/// The word with the flag at this place set, or taken away.
+pub(crate) fn with_flag(word: u64, place: usize, set: bool) -> u64
     requires { place < 64 }
     ensures { (r : ℕ) → r < 64 → (bit_at result r == 1) ≡ cond (nat_eq r place) set (bit_at word r == 1) }
 {

@@ -5,6 +5,7 @@ ghost use Rattle.formal_sums.specs.FormalSums.{Each};
 ghost use Rattle.pair_criteria.specs.declared.pair.Pair.{Pair as CodePair};
 ghost use Rattle.pair_updates.specs.Leads.{LeadsShown, setting_of_leads, sums_shown};
 ghost use Rattle.pair_updates.specs.Pairs.{IsRealPair, index_pair_of, pairs_of, AreIndices};
+ghost use Rattle.pair_queue.specs.Reaches.{IsReach};
 ghost use Rattle.pair_queue.specs.Skipping.{AreSkipped, IsKnown, IsSpared, NoneIsSpared};
 ghost use Rattle.pair_queue.specs.Tables.{IsFlagTable, flag, flag_cleared, member_count};
 ghost use Rattle.basis_steps.specs.Pairs.{Pair as PlainPair};
@@ -13,6 +14,7 @@ ghost use Rattle.queue_updates.specs.declared.Update.TheVariants as updates;
 
 use crate::closing::pass;
 use crate::queue::Queue;
+use crate::reach::Reach;
 use crate::table::Table;
 use monomial_orders::Mono;
 use pair_criteria::Pair;
@@ -77,6 +79,7 @@ fn put_back(queue: &mut Queue, count: usize, kept: usize, next: usize) -> usize
 // lcm, and stand last among those kept. Returns how many are kept, and where those that are still to be looked at begin.
 fn skip_pair(
     leads: &Leads,
+    reach: &Reach,
     waits: &mut Table,
     due: &mut Table,
     queue: &mut Queue,
@@ -84,6 +87,7 @@ fn skip_pair(
     next: usize,
     pair: (u64, u64),
 ) -> (usize, usize)
+    requires reach { IsReach leads.now reach.now }
     requires waits { member_count waits.old ≡ length leads.now.keys }
     requires due { member_count due.old ≡ length leads.now.keys }
     requires real { Each (IsRealPair leads.now) queue.old.items }
@@ -112,7 +116,7 @@ fn skip_pair(
 {
     let pairs = queue.as_slice();
     let before = count_before(&pairs[..kept], &pairs[next].lcm.monomial);
-    pass(leads, waits, due, pair.0 as usize, pair.1 as usize);
+    pass(leads, reach, waits, due, pair.0 as usize, pair.1 as usize);
     let count = count_due(due, &pairs[..kept], before);
     let next = put_back(queue, count, kept, next + 1);
     (count, next)
@@ -136,11 +140,13 @@ fn keep(queue: &mut Queue, kept: usize, next: usize)
 /// section 10.
 pub(crate) fn skip(
     leads: &Leads,
+    reach: &Reach,
     waits: &mut Table,
     due: &mut Table,
     queue: &mut Queue,
     skipped: &mut Vec<(u64, u64)>,
 )
+    requires reach { IsReach leads.now reach.now }
     requires waits { member_count waits.old ≡ length leads.now.keys }
     requires due { member_count due.old ≡ length leads.now.keys }
     requires real { Each (IsRealPair leads.now) queue.old.items }
@@ -164,7 +170,7 @@ pub(crate) fn skip(
         if !due.has(x.i as usize, x.j as usize) {
             let pair = (x.i, x.j);
             skipped.push_reserved(pair);
-            (kept, next) = skip_pair(leads, waits, due, queue, kept, next, pair);
+            (kept, next) = skip_pair(leads, reach, waits, due, queue, kept, next, pair);
         } else {
             keep(queue, kept, next);
             kept += 1;
@@ -178,11 +184,13 @@ pub(crate) fn skip(
 pub(crate) fn skip_by(
     update: Update,
     leads: &Leads,
+    reach: &Reach,
     waits: &mut Table,
     due: &mut Table,
     queue: &mut Queue,
     skipped: &mut Vec<(u64, u64)>,
 )
+    requires reach { update ≡ updates.Plain → IsReach leads.now reach.now }
     requires waits { update ≡ updates.Plain → member_count waits.old ≡ length leads.now.keys }
     requires due { update ≡ updates.Plain → member_count due.old ≡ length leads.now.keys }
     requires real { Each (IsRealPair leads.now) queue.old.items }
@@ -200,7 +208,7 @@ pub(crate) fn skip_by(
     ensures nothing { update ≡ updates.Gebauer → (skipped.new.items ≡ []) × (queue.new.items ≡ queue.old.items) }
 {
     match update {
-        Update::Plain => skip(leads, waits, due, queue, skipped),
+        Update::Plain => skip(leads, reach, waits, due, queue, skipped),
         Update::Gebauer => {}
     }
 }

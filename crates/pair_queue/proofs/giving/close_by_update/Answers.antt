@@ -7,7 +7,12 @@ use Rattle.pair_queue.proofs.Clearing.{kept_out}
 use Rattle.pair_queue.proofs.giving.close_by_update.Goals as goal
 
 pub close_job-requires : goal.close_job-requires
-close_job-requires c = record { within = c.requires.within; waits = c.requires.waits c.in-Plain.is; due = c.requires.due c.in-Plain.is }
+close_job-requires c = record {
+  within = c.requires.within;
+  reach = c.requires.reach c.in-Plain.is;
+  waits = c.requires.waits c.in-Plain.is;
+  due = c.requires.due c.in-Plain.is;
+}
 
 pub returns-in-Plain : goal.returns-in-Plain
 returns-in-Plain c = record {

@@ -3,6 +3,7 @@ use Rattle.pair_queue.proofs.skipping.skip_by.Goals as goal
 
 pub skip-requires : goal.skip-requires
 skip-requires c = record {
+  reach = c.requires.reach c.in-Plain.is;
   waits = c.requires.waits c.in-Plain.is;
   due = c.requires.due c.in-Plain.is;
   real = c.requires.real;

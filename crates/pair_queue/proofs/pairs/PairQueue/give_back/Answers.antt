@@ -21,6 +21,7 @@ invariant_of-self c =
       sorted = inv.sorted;
       within = subst (λ (l : List (Pair × ℕ)). Each (AreIndices (length i.leads.keys)) (pairs_out l)) (sym c.close_by_update.ensures.out)
           (others_within (AreIndices (length i.leads.keys)) c.args.worker (outs_of i.out.items) inv.within);
+      reach = inv.reach;
       waits_size = λ e. c.close_by_update.ensures.waits_size e ∙ inv.waits_size e;
       due_size = λ e. c.close_by_update.ensures.due_size e ∙ inv.due_size e;
       table = λ e. c.close_by_update.ensures.table e (pairs_of i.queue.items) (inv.table e);
