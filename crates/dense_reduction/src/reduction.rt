@@ -1,11 +1,11 @@
 // The reduction of a row by the pivots that words name and by a helper's own.
-ghost use Rattle.std.specs.Prelude.{◌≡◌, ◌<◌, ◌≤◌, ◌+◌, ◌*◌, ◌++◌, ◌-◌, ◌%◌, List, [], ◌∷◌, ℕ, drop, length, get_or, IfOk, MatchOption, OnOk};
+ghost use Rattle.std.specs.Prelude.{◌≡◌, ◌<◌, ◌≤◌, ◌+◌, ◌*◌, ◌++◌, ◌-◌, ◌%◌, List, [], ◌∷◌, None, ℕ, drop, length, get_or, IfOk, MatchOption, OnOk};
 ghost use Rattle.residues.specs.Residues.{IsCongruent};
 ghost use Rattle.monomials.specs.Exponents.{unit};
 ghost use Rattle.formal_sums.specs.FormalSums.{Each, IsSame, Key as KeyOf, scale};
 ghost use Rattle.pivot_table.specs.Law.{IsSeatOf, told};
 ghost use Rattle.pivot_table.specs.declared.law.Entry.{Entry as Told};
-ghost use Rattle.row_matrix.specs.Rows.{AreEntries, IsRow, RowShown, first_column, row_sum, shown_row_at};
+ghost use Rattle.row_matrix.specs.Rows.{AreEntries, Entry, IsRow, RowShown, first_column, row_sum, shown_row_at};
 ghost use Rattle.dense_reduction.specs.Dense.{AddsMultiple, AreWithin, HasRoom, IsDense, dense_sum};
 ghost use Rattle.dense_reduction.specs.Pivots.{ArePivots};
 ghost use Rattle.dense_reduction.specs.Reductions.{HasPivot, IsReducedSoFar, least_left};
@@ -199,6 +199,7 @@ fn clear_column(
         work.old.left.items work.old.numbers.items work.old.taken.items
         → OnOk result (IsReducedSoFar shared.entry.modulus.now.value from shared.entry.rows.now (rows_left own.now.left.items) (told seat.new) row
         work.new.left.items work.new.numbers.items work.new.taken.items) }
+    ensures front { OnOk result ((more : List Entry) × (work.new.left.items ≡ work.old.left.items ++ more)) }
 {
     let modulus = shared.modulus;
     modulus.domain();
@@ -240,6 +241,7 @@ fn start_work(
         told (first_column row.now.entries) pivot
         → OnOk result (IsReducedSoFar shared.entry.modulus.now.value (least_left row.now.entries pivot) shared.entry.rows.now
         (rows_left own.now.left.items) told row.now work.new.left.items work.new.numbers.items work.new.taken.items) }
+    ensures first { pivot ≡ None → OnOk result (work.new.left.items ≡ (first_column row.now.entries, 1) ∷ []) }
 {
     let modulus = shared.modulus;
     modulus.domain();
@@ -300,6 +302,7 @@ fn clear_columns(
         (length (shared.entry.rows.now ++ rows_left own.now.left.items)) own.now.pivots.items work.new.left.items work.new.numbers.items work.new.taken.items) }
     ensures reduced { OnOk result (IsReducedSoFar shared.entry.modulus.now.value (least_left row.now.entries pivot) shared.entry.rows.now
         (rows_left own.now.left.items) (told seat.new) row.now work.new.left.items work.new.numbers.items work.new.taken.items) }
+    ensures front { pivot ≡ None → OnOk result ((more : List Entry) × (work.new.left.items ≡ (first_column row.now.entries, 1) ∷ more)) }
 {
     start_work(shared, own, work, row, pivot)?;
     let mut c = next_column(work.numbers.as_slice(), row.entries()[0].0 + 1, columns);
@@ -497,6 +500,7 @@ pub fn reduce_row(
         (IsGone shared.entry.modulus.now.value shared.entry.rows.now (rows_left own.now.left.items) (told seat.new) row.now)
         (IsRestFrom shared.entry.modulus.now.value (length own.now.pivots.items) shared.entry.inputs (least_left row.now.entries pivot)
         shared.entry.rows.now (rows_left own.now.left.items) (told seat.new) row.now)) }
+    ensures stays { pivot ≡ None → IfOk result (λ r. MatchOption r ⊥ (λ x. first_column x.entries ≡ first_column row.now.entries)) }
 {
     shared.modulus.domain();
     let columns = kept_number(own.pivots.as_slice().len())?;

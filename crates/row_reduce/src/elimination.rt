@@ -14,6 +14,7 @@ ghost use Rattle.row_reduce.specs.Passes.{places};
 
 use crate::choosing::choose;
 use crate::helpers::{Passed, pass};
+use crate::tails::reduced_tails;
 use dense_reduction::Left;
 use module_vectors::{Key, NoMemory};
 use row_matrix::{Matrix, Row};
@@ -256,7 +257,9 @@ fn reduce_rows<R: Threads + Sync>(
 /// those whose column another row has, by that row and by each other pivot that the helper can read: at each column the row that has
 /// it by then, or else one that the helper left itself. What is left has a lower lead, so the passes end. Which of the rows a pass is
 /// over `choose` says: where there is work for several helpers, the first row of each free column, those with fewer entries first in
-/// the first pass, and a part of the others after another. `NoMemory` is the only error; the matrix is gone then.
+/// the first pass, and a part of the others after another. After the last pass the tail of each row that is a combination of several
+/// input rows is reduced by the rows with lower leads, so that little of it is left to divide later; input rows stay as they are.
+/// `NoMemory` is the only error; the matrix is gone then.
 pub fn echelon<R: Threads + Sync>(
     rt: &R,
     alloc: Global,
@@ -274,16 +277,10 @@ pub fn echelon<R: Threads + Sync>(
         → IfOk result (λ e. IsEchelonForm S (vectors_of n matrix.columns matrix.rows) (vectors_of n e.columns.items e.rows.items)) }
 {
     let (columns, inputs, rows) = matrix.into_parts();
-    let rows = reduce_rows(
-        rt,
-        alloc,
-        modulus,
-        columns.len(),
-        inputs,
-        rows,
-        helpers,
-        thread,
-        gate,
+    let count = columns.len();
+    let done = reduce_rows(
+        rt, alloc, modulus, count, inputs, rows, helpers, thread, gate,
     )?;
+    let rows = reduced_tails(alloc, modulus, count, inputs, done)?;
     Ok(EchelonRows { columns, rows })
 }

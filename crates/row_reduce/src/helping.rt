@@ -28,7 +28,7 @@ use worker_gate::SharedGate;
 const FEW: usize = 3;
 
 // Keeps what is left of the row with this number, as the pivot of its first column.
-fn keep_left(own: &mut Own, number: u64, row: Row) -> Result<(), NoMemory>
+pub(crate) fn keep_left(own: &mut Own, number: u64, row: Row) -> Result<(), NoMemory>
     requires some { 0 < length row.entries }
     requires within { first_column row.entries < length own.old.pivots.items }
     ensures left { OnOk result (own.new.left.items ≡ own.old.left.items ++ record { number = number; row = row } ∷ []) }
@@ -112,7 +112,7 @@ fn replace_each(
 }
 
 // Has one of the columns of the row an own pivot?
-fn meets_own(own: &Own, row: &Row) -> bool
+pub(crate) fn meets_own(own: &Own, row: &Row) -> bool
     requires { Each (λ e. e.0 < length own.now.pivots.items) row.now.entries }
     ensures { result ≡ false → Each (λ e. get_or own.now.pivots.items e.0 0 ≡ 0) row.now.entries }
 {

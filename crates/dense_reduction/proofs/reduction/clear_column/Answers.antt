@@ -1,4 +1,4 @@
-use Rattle.std.proofs.Common.{[], arith, drop, get_or, length, mod-lt, set, subst, sym, ◌%◌, ◌+◌, ◌++◌, ◌<◌, ◌∙◌, ◌∷◌, ◌≡◌, ◌≤◌}
+use Rattle.std.proofs.Common.{[], append-nil, arith, drop, get_or, length, mod-lt, set, subst, sym, ◌%◌, ◌+◌, ◌++◌, ◌<◌, ◌∙◌, ◌∷◌, ◌≡◌, ◌≤◌}
 use Rattle.residues.specs.Residues.{IsCongruent}
 use Rattle.formal_sums.proofs.WeightedSums.{Each_append}
 use Rattle.pivot_table.specs.Law.{told}
@@ -94,6 +94,9 @@ returns-in_ok-add_pivot-in-Some-clause-reduced c = λ from row above h.
     reduced_added p from c.args.c c.in-Some.pivot f r c.args.shared.rows.now own (told c.args.seat.now) (told c.pivot_of.new.seat) row w.left.items new.left.items w.numbers.items new.numbers.items w.taken.items new.taken.items
     (omega (arith, one)) c.pivot_of.ensures.follows pivot cancels c.add_pivot.ensures.left c.in_ok-add_pivot-in-Some.ensures.taken
     (λ n key. pivot_added p (omega (arith, one)) key c.args.c r w.numbers.items lt is w.left.items P.entries (drop 1 P.entries) f new.numbers.items g.entries cancels (c.add_pivot.ensures.adds.sum n key)) h
+
+pub returns-in_ok-add_pivot-in-Some-clause-front : goal.returns-in_ok-add_pivot-in-Some-clause-front
+returns-in_ok-add_pivot-in-Some-clause-front c = ([], c.add_pivot.ensures.left ∙ sym (append-nil c.args.work.now.left.items))
 
 pub pivot_of-requires-clause-at : goal.pivot_of-requires-clause-at
 pivot_of-requires-clause-at c = c.requires.at

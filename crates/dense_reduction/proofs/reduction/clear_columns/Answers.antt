@@ -1,4 +1,4 @@
-use Rattle.std.proofs.Common.{ap, arith, get_or, length, subst, sym, ℕ, ◌+◌, ◌++◌, ◌<◌, ◌∙◌, ◌≡◌, ◌≤◌}
+use Rattle.std.proofs.Common.{[], ap, arith, get_or, length, subst, sym, ℕ, ◌+◌, ◌++◌, ◌<◌, ◌∙◌, ◌≡◌, ◌≤◌}
 use Rattle.pivot_table.specs.Law.{told}
 use Rattle.row_matrix.specs.Rows.{first_column}
 use Rattle.dense_reduction.proofs.Clearing.{underway_skip}
@@ -57,6 +57,7 @@ loop-c-init c =
           (subst (λ m. IsRowUnderway p w.limit (first + 1) m count pivots w.left.items w.numbers.items w.taken.items) c.requires.idle.0
           c.in_ok-start_work.ensures.underway) from zeros;
       reduced = c.in_ok-start_work.ensures.reduced (told c.args.seat.now) c.requires.pivot;
+      front = λ none. ([], c.in_ok-start_work.ensures.first none);
     }
 
 pub loop-c-preserved : goal.loop-c-preserved
@@ -79,6 +80,9 @@ loop-c-preserved c =
       reduced =
           let from = least_left c.args.row.now.entries c.args.pivot in
           e.reduced from c.args.row.now (omega (arith, v.above, least_below c.args.row.now.entries c.args.pivot)) v.reduced;
+      front = λ none.
+          let before = v.front none in
+          (before.0 ++ e.front.0, e.front.1 ∙ ap (λ es. es ++ e.front.0) before.1);
     }
 
 pub clear_column-requires-clause-ready : goal.clear_column-requires-clause-ready

@@ -1,6 +1,6 @@
-use Rattle.std.proofs.Common.{length, ◌++◌, ◌-◌, ◌<◌, ◌≤◌}
+use Rattle.std.proofs.Common.{List, None, length, ◌++◌, ◌-◌, ◌<◌, ◌∷◌, ◌≡◌, ◌≤◌}
 use Rattle.pivot_table.specs.Law.{IsSeatOf, told}
-use Rattle.row_matrix.specs.Rows.{first_column}
+use Rattle.row_matrix.specs.Rows.{Entry, first_column}
 use Rattle.dense_reduction.specs.Reductions.{IsReducedSoFar, least_left}
 use Rattle.dense_reduction.specs.Rests.{rows_left}
 use Rattle.dense_reduction.specs.Underway.{IsRowUnderway}
@@ -20,6 +20,7 @@ invariant-loop-c l =
       follows : IsToldAfter (told l.fn.seat) (told l.seat);
       underway : IsRowUnderway p l.work.limit l.c (length pivots) (length (rows ++ own)) pivots l.work.left.items l.work.numbers.items l.work.taken.items;
       reduced : IsReducedSoFar p (least_left l.row.entries l.fn.pivot) rows own (told l.seat) l.row l.work.left.items l.work.numbers.items l.work.taken.items;
+      front : l.fn.pivot ≡ None → (more : List Entry) × (l.work.left.items ≡ (first_column l.row.entries, 1) ∷ more);
     }
 
 abbrev pub decreases-loop-c : goal.decreases-loop-c

@@ -1,8 +1,8 @@
-use Rattle.std.proofs.Common.{arith, length, subst, subst₂, sym, ◌++◌, ◌<◌, ◌∙◌}
+use Rattle.std.proofs.Common.{List, [], ap, arith, length, subst, subst₂, sym, ◌++◌, ◌<◌, ◌∙◌, ◌∷◌, ◌≡◌}
 use Rattle.formal_sums.proofs.Combining.{Each_map}
 use Rattle.formal_sums.proofs.WeightedSums.{Each_append}
 use Rattle.pivot_table.specs.Law.{told}
-use Rattle.row_matrix.specs.Rows.{AreEntries, IsRow, RowShown}
+use Rattle.row_matrix.specs.Rows.{AreEntries, IsRow, RowShown, first_column}
 use Rattle.dense_reduction.proofs.Reducing.{zeros_idle}
 use Rattle.dense_reduction.proofs.Steps.{gone_row, rest_row}
 use Rattle.dense_reduction.specs.Reductions.{least_left}
@@ -61,6 +61,24 @@ returns-in-Some-clause-rest c =
     e.underway e.reduced c.in-Some.rest c.requires.own
     (subst₂ (λ left taken. IsLeftRow p (length pivots) c.args.shared.inputs (c.args.shared.rows.now ++ own) c.args.row.now left taken c.in-Some.rest)
     c.deref.ensures.value c.deref-2.ensures.value (rw c.in-Some.is at c.in_ok-left.ensures))
+
+pub returns-in-None-clause-stays : goal.returns-in-None-clause-stays
+returns-in-None-clause-stays c = λ none.
+    let front = c.in_ok-clear_columns.ensures.front none in
+    let gone : c.deref.result.now ≡ [] = rw c.in-None.is at c.in_ok-left.ensures in
+    some_left (sym gone ∙ c.deref.ensures.value ∙ front.1)
+  where
+    some_left : {X : Type 0} {x : X} {xs : List X} → [] ≡ x ∷ xs → ⊥
+    some_left e = cc
+
+pub returns-in-Some-clause-stays : goal.returns-in-Some-clause-stays
+returns-in-Some-clause-stays c = λ none.
+    let p = c.args.shared.modulus.now.value in
+    let rows = c.args.shared.rows.now ++ rows_left c.args.own.now.left.items in
+    let columns = length c.args.own.now.pivots.items in
+    let left : IsLeftRow p columns c.args.shared.inputs rows c.args.row.now c.deref.result.now c.deref-2.result.now c.in-Some.rest =
+    rw c.in-Some.is at c.in_ok-left.ensures in
+    left.first ∙ ap first_column (c.deref.ensures.value ∙ (c.in_ok-clear_columns.ensures.front none).1)
 
 pub clear_columns-requires-clause-ready : goal.clear_columns-requires-clause-ready
 clear_columns-requires-clause-ready c = c.requires.ready
