@@ -14,13 +14,13 @@ use vector_division::ScaledProduct;
 fn quotient_terms(alloc: Global, quotients: &[ScaledProduct]) -> Result<Vec<(Key, u32)>, NoMemory>
     ensures { IfOk result (λ terms. terms.items ≡ map term_of quotients.now) }
 {
-    let mut terms = Vec::new(alloc);
+    let mut terms = Vec::with_capacity(alloc, quotients.len())?;
     for quotient in quotients {
         let key = Key {
             position: quotient.index,
             monomial: quotient.monomial.try_copy(alloc)?,
         };
-        terms.push((key, quotient.residue))?;
+        terms.push_reserved((key, quotient.residue));
     }
     Ok(terms)
 }

@@ -6,3 +6,4 @@ pub mod Represented
 pub mod JobParts
 pub mod MadeRows
 pub mod Outcomes
+pub mod Unranked

@@ -1,5 +1,6 @@
 -- Rows of a matrix as rows of an outcome
-use Rattle.std.proofs.Common.{List, [], ap, length, map, refl, sym, ℕ, ◌*◌, ◌++◌, ◌+◌, ◌<◌, ◌∙◌, ◌∷◌, ◌≡◌}
+use Rattle.std.proofs.Common.{List, [], ap, get_or, length, map, refl, sym, take, ℕ, ◌*◌, ◌++◌, ◌+◌, ◌<◌, ◌∙◌, ◌∷◌, ◌≡◌}
+use Rattle.std.proofs.lemmas.List.{get_or_default, map-append, map_more}
 use Rattle.std.proofs.lemmas.List.Sorted.{IsPermutation-map, sum_by-IsPermutation}
 use Rattle.std.proofs.lemmas.List.Sums.{sum_by-cons}
 use Rattle.std.specs.List.{sum_by}
@@ -15,14 +16,14 @@ use Rattle.term_lists.specs.Rings.{ring_comparison, setting, variables}
 use Rattle.term_lists.specs.Vectors.{AreTermsOver, IsMonomialOver, IsVectorOver, StandsFor, sum_of}
 use Rattle.term_lists.specs.declared.key.Key.{Key as CodeKey}
 use Rattle.term_lists.specs.declared.ring.Ring.{Ring}
-use Rattle.module_vectors.specs.Trails.{KeptProduct, no_product}
-use Rattle.monomial_orders.specs.Kept.{IsWeighed}
+use Rattle.module_vectors.specs.Trails.{KeptProduct, kept_at, no_product}
+use Rattle.monomial_orders.specs.Kept.{IsWeighed, Monomial}
 use Rattle.member_products.specs.declared.member.Reduct.{Reduct as CodeReduct}
 use Rattle.row_matrix.specs.Hashes.{no_key}
 use Rattle.row_matrix.specs.Rows.{AreEntries, AreKeys, Descend, Entry, IsRow, RowShown, column_key, row_sum, vector_of}
 use Rattle.dense_reduction.proofs.Entries.{entries_within}
 use Rattle.row_reduce.proofs.Forms.{row_normal}
-use Rattle.vector_division.specs.Reductions.{cofactors_of}
+use Rattle.vector_division.specs.Reductions.{cofactors_of, term_of}
 use Rattle.vector_division.specs.declared.reduction.ScaledProduct.{ScaledProduct}
 use Rattle.f4_job.specs.Made.{AreMadeRows, AreWeighedProducts, IsMadeRow, entry_term, source_part, source_parts}
 
@@ -56,6 +57,31 @@ parts_over ring products low [] k h = tt
 parts_over ring products low (e ∷ es) k h =
     let w = entries_within ring.modulus.value low (length products) (e ∷ es) h in
     ((Each_member (λ (s : KeptProduct). IsWeighed (variables ring) ring.weights s.1) products e.0 no_product k w.0.0, w.0.1), parts_over ring products (e.0 + 1) es k h.3)
+
+-- the sources as terms stand for the sum of their products
+pub source_terms_sum : (n : ℕ) (qs : List ScaledProduct) → sum_of n (map term_of qs) ≡ cofactors_of n qs
+source_terms_sum n [] = refl
+source_terms_sum n (q ∷ qs) = ap (λ l. ((q.index, exponents_of n q.monomial.exponents), q.residue) ∷ l) (source_terms_sum n qs)
+
+pub source_terms_over :
+    (ring : Ring) (qs : List ScaledProduct) → Each (λ q. IsMonomialOver ring q.monomial × (q.residue < ring.modulus.value)) qs → AreTermsOver ring (map term_of qs)
+source_terms_over ring [] h = tt
+source_terms_over ring (q ∷ qs) h = (h.0, source_terms_over ring qs h.1)
+
+-- one source more, whose product is s
+pub source_terms_more :
+    (products : List KeptProduct) (sources : List Entry) (i : ℕ) (s : KeptProduct) (monomial : Monomial) (terms more : List (CodeKey × ℕ))
+    → i < length sources → (get_or sources i (0, 0)).0 < length products
+    → s ≡ get_or products (get_or sources i (0, 0)).0 s → monomial ≡ s.1 → terms ≡ map term_of (source_parts products (take i sources))
+    → more ≡ terms ++ ((record { position = s.0; monomial = monomial }, (get_or sources i (0, 0)).1) ∷ [])
+    → more ≡ map term_of (source_parts products (take (i + 1) sources))
+source_terms_more products sources i s monomial terms more lt known is em es e =
+    let source : Entry = get_or sources i (0, 0) in
+    let product : s ≡ kept_at products source.0 = is ∙ get_or_default products source.0 s no_product known in
+    e ∙ (λ j. es j ++ ((record { position = s.0; monomial = em j }, source.1) ∷ []))
+    ∙ ap (λ (q : KeptProduct). map term_of (source_parts products (take i sources)) ++ ((record { position = q.0; monomial = q.1 }, source.1) ∷ [])) product
+    ∙ sym (ap (map term_of) (map_more (λ (x : Entry). source_part products x) sources i (0, 0) lt)
+    ∙ map-append term_of (source_parts products (take i sources)) (source_part products source ∷ []))
 
 -- ---- the terms of a sum in another order
 weighted_by : {n : ℕ} (f : Key n → ℕ) (v : FormalSum n) → weighted_sum f v ≡ sum_by (λ (t : Term n). t.1 * f t.0) v

@@ -26,6 +26,14 @@ source_part ps e = record { index = (kept_at ps e.0).0; residue = e.1; monomial 
 abbrev pub source_parts : List KeptProduct → List Entry → List ScaledProduct
 source_parts ps sources = map (λ e. source_part ps e) sources
 
+-- a source behind the rank of its product
+abbrev pub RankedSource : Type 0
+RankedSource = ℕ × ℕ × ℕ
+
+-- the source without the rank
+abbrev pub unranked : RankedSource → Entry
+unranked s = (s.1, s.2)
+
 -- the row has this vector, and the products that its sources name
 pub record IsMadeRow (ring : Ring) (columns : List CodeKey) (ps : List KeptProduct) (r : RowShown) (row : CodeReduct) : Type 0 where
   pub vector : IsVectorOf ring row.vector

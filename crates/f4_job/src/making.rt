@@ -2,17 +2,16 @@
 ghost use Rattle.std.specs.Prelude.{◌≡◌, ◌<◌, IfOk, length, map};
 ghost use Rattle.formal_sums.specs.FormalSums.{Each};
 ghost use Rattle.term_lists.specs.Rings.{ring_comparison, variables};
+ghost use Rattle.vector_division.specs.Reductions.{term_of};
 ghost use Rattle.row_matrix.specs.Rows.{AreKeys, Descend, IsRow};
 ghost use Rattle.f4_job.specs.Made.{AreMadeRows, AreWeighedProducts, IsMadeRow, entry_term, source_parts};
 
 use crate::ranking::{ranks_of, sorted_sources};
-use basis_core::quotient_products;
 use member_products::Reduct;
 use module_vectors::{Key, NoMemory, Ring, Vect};
 use monomial_orders::Mono;
 use row_matrix::Row as MatrixRow;
 use std::alloc::Global;
-use vector_division::ScaledProduct;
 
 // The terms of a row.
 fn row_terms(
@@ -31,26 +30,26 @@ fn row_terms(
     Ok(terms)
 }
 
-// The products that a row's sources name, each with its residue.
-fn row_parts(
+// The terms that a row's sources stand for: each one's residue times its product's monomial, at the index of the product's
+// member as position.
+fn source_terms(
     alloc: Global,
     products: &[(u64, Mono)],
     sources: &[(u32, u32)],
-) -> Result<Vec<ScaledProduct>, NoMemory>
+) -> Result<Vec<(Key, u32)>, NoMemory>
     requires { Each (λ e. e.0 < length products.now) sources.now }
-    ensures { IfOk result (λ parts. parts.items ≡ source_parts products.now sources.now) }
+    ensures { IfOk result (λ terms. terms.items ≡ map term_of (source_parts products.now sources.now)) }
 {
-    let mut parts = Vec::with_capacity(alloc, sources.len())?;
+    let mut terms = Vec::with_capacity(alloc, sources.len())?;
     for source in sources {
         let product = &products[source.0 as usize];
-        let monomial = product.1.try_copy(alloc)?;
-        parts.push_reserved(ScaledProduct {
-            index: product.0,
-            residue: source.1,
-            monomial,
-        });
+        let key = Key {
+            position: product.0,
+            monomial: product.1.try_copy(alloc)?,
+        };
+        terms.push_reserved((key, source.1));
     }
-    Ok(parts)
+    Ok(terms)
 }
 
 // The row of an outcome that this row of a matrix is. Its sources are taken by these ranks of the products, so that their
@@ -72,8 +71,8 @@ fn make_row(
     let terms = row_terms(alloc, columns, row.entries())?;
     let vector = Vect::from_terms(alloc, ring, terms)?;
     let sources = sorted_sources(alloc, ranks, row.sources())?;
-    let parts = row_parts(alloc, products, &sources)?;
-    let products = quotient_products(alloc, ring, &parts)?;
+    let cofactors = source_terms(alloc, products, &sources)?;
+    let products = Vect::from_terms(alloc, ring, cofactors)?;
     Ok(Reduct { vector, products })
 }
 
