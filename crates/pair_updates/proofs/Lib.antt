@@ -13,6 +13,7 @@ pub mod Halving
 pub mod PairSorting
 pub mod Negating
 pub mod RowMasks
+pub mod ToldRows
 pub mod LeadRows
 pub mod MetPairs
 pub mod ProperDivisors

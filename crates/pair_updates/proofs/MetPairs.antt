@@ -7,12 +7,13 @@ use Rattle.std.specs.Prelude.{bit_and}
 use Rattle.formal_sums.specs.FormalSums.{FormalSum}
 use Rattle.bases.specs.Leads.{leads}
 use Rattle.basis_steps.specs.Pairs.{Pair}
-use Rattle.pair_updates.proofs.RowMasks.{divisor_exceeds, implied_four}
+use Rattle.pair_updates.proofs.RowMasks.{divisor_exceeds, implied_four, row_divisor, row_length}
+use Rattle.pair_updates.proofs.ToldRows.{told_below}
 use Rattle.pair_updates.specs.Dropping.{IsPairWithBits, new_pair_of}
 use Rattle.pair_updates.specs.FirstYields.{AreActive}
 use Rattle.pair_updates.specs.LeadCriteria.{DividesLcm}
 use Rattle.pair_updates.specs.Leads.{LeadsShown, sums_shown}
-use Rattle.pair_updates.specs.Rows.{bits_above, lead_row}
+use Rattle.pair_updates.specs.Rows.{TellsAll, bits_above, lead_row}
 use Rattle.pair_updates.specs.declared.meeting.NewPair.{NewPair}
 
 module _ (m : LeadsShown) where
@@ -37,6 +38,16 @@ module _ (m : LeadsShown) where
   pub kept_same :
       (i h j a b : ℕ) → a ≡ bits_above m j h → b ≡ bits_above m i h → DividesLcm m (i, h) j → DividesLcm m (j, h) i → a ≡ b
   kept_same i h j a b ea eb d e = ea ∙ same_bits i h j d e ∙ sym eb
+
+  -- in a ring of at most sixteen variables a word that tells all and lies within that of i says so: the lead divides the lcm
+  pub divides_told :
+      (i h j a b : ℕ) → a ≡ bits_above m j h → b ≡ bits_above m i h → bit_and a b ≡ a → TellsAll a → m.variables ≤ 16
+      → (leads G j).0 ≡ (leads G i).0 → DividesLcm m (i, h) j
+  divides_told i h j a b ea eb within all few position =
+      let d = row_divisor m.variables 16 (leads G j).1 (leads G i).1 (leads G h).1 few
+      (told_below (lead_row m j) (lead_row m h) (lead_row m i) (row_length 16 (leads G j).1) (row_length 16 (leads G h).1) (row_length 16 (leads G i).1)
+      (ap₂ bit_and (sym ea) (sym eb) ∙ within ∙ ea) (subst TellsAll ea all)) in
+      (d.0, λ t. (position t, d.1 t))
 
   -- a pair that is met, by its indices
   pub met_at : (h i : ℕ) (x : NewPair) → IsPairWithBits m x → new_pair_of x ≡ (i, h) → IsPairWithBits m (record { i = i; j = h; above = x.above })

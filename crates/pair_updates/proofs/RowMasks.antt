@@ -56,7 +56,7 @@ masks_joined xs ys n long short =
         omega (arith, a, b)
 
 -- ---- the sixteen flags of one number
-long_flags : (k t : ℕ) (xs ys : List ℕ) → length xs ≡ k → length ys ≡ k → length (exceeds_by k t xs ys) ≡ k
+pub long_flags : (k t : ℕ) (xs ys : List ℕ) → length xs ≡ k → length ys ≡ k → length (exceeds_by k t xs ys) ≡ k
 long_flags k t xs ys hx hy =
     let a = length-zip2 (λ (u e : ℕ). ltb u e) (replicate k t) (zip2 ◌-◌ xs ys) in
     let b = length-zip2 ◌-◌ xs ys in

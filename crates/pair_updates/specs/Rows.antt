@@ -1,5 +1,6 @@
 -- The first exponents of monomials, side by side
 use Rattle.std.specs.Prelude.{Bool, List, [], bit_and, length, ltb, map, replicate, slice_index, suc, zero, ℕ, ◌++◌, ◌-◌, ◌<◌, ◌∷◌, ◌≡◌, ◌≤◌}
+use Rattle.std.specs.Int.{bit_at}
 use Rattle.std.specs.Simd.Lanes.{mask_l, zip2}
 use Rattle.monomials.specs.Exponents.{Exponents, cons, exponents_of, nil}
 use Rattle.bases.specs.Leads.{leads}
@@ -35,6 +36,10 @@ exceeding xs ys = ((exceeds_by 16 0 xs ys ++ exceeds_by 16 1 xs ys) ++ exceeds_b
 -- the number whose bits say in which of the first sixteen variables lead i exceeds lead h so
 abbrev pub bits_above : LeadsShown → (i h : ℕ) → ℕ
 bits_above m i h = mask_l (exceeding (lead_row m i) (lead_row m h))
+
+-- the word has no bit from 48 on, which say where an excess is above 3
+abbrev pub TellsAll : ℕ → Type 0
+TellsAll word = (i : ℕ) → 48 ≤ i → bit_at word i ≡ 0
 
 -- from this place on, and before `end`, each word has one of the missing bits
 abbrev pub EachHasMissing : List ℕ → ℕ → ℕ → ℕ → Type 0

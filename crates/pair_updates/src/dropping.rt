@@ -7,13 +7,13 @@ ghost use Rattle.formal_sums.specs.FormalSums.{Each};
 ghost use Rattle.pair_updates.specs.Dropping.{AreNewPairs, IsFate, IsPairWithBits, IsNewIn};
 ghost use Rattle.pair_updates.specs.FirstYields.{AreFirstYields, HasGroup};
 ghost use Rattle.pair_updates.specs.Leads.{setting_of_leads, sums_shown};
-ghost use Rattle.pair_updates.specs.LeadCriteria.{ProductSpares};
+ghost use Rattle.pair_updates.specs.LeadCriteria.{DividesLcm, ProductSpares};
 ghost use Rattle.pair_updates.specs.declared.dropping.Fate.TheVariants as fates;
 
 use crate::criteria::{divides_lcm, product_spares};
 use crate::leads::Leads;
 use crate::meeting::NewPair;
-use crate::rows::is_within;
+use crate::rows::{is_within, tells_all};
 
 /// What becomes of the pair of an earlier member and a new one.
 #[derive(Clone, Copy)]
@@ -44,22 +44,36 @@ pub(crate) fn leaves_for(leads: &Leads, h: usize, i: usize, j: usize) -> bool
     !divides_lcm(leads, j, h, i)
 }
 
+// Does the lead of j divide the lcm of i and the new member h, where these are the words of their pairs? Most words say no, and in a
+// ring of at most sixteen variables a word that tells all says yes too: only behind both are exponents read.
+fn lcm_is_reached(leads: &Leads, i: usize, h: usize, j: usize, above_i: u64, above_j: u64) -> bool
+    requires pair { IsPairWithBits leads.now (record { i = i; j = h; above = above_i }) }
+    requires other { IsPairWithBits leads.now (record { i = j; j = h; above = above_j }) }
+    ensures { IsTrue result ↔ DividesLcm leads.now (i, h) j }
+{
+    if !is_within(above_j, above_i) {
+        return false;
+    }
+    if tells_all(above_j) && leads.weights().len() <= 16 {
+        return true;
+    }
+    divides_lcm(leads, i, h, j)
+}
+
 /// Does the pair yield to that of j and the same new member, with these bits? By its bits most do not.
 pub(crate) fn yields_to(leads: &Leads, pair: &NewPair, j: usize, above: u64) -> bool
     requires pair { IsPairWithBits leads.now pair.now }
     requires other { IsPairWithBits leads.now (record { i = j; j = pair.now.j; above = above }) }
     ensures { IsTrue result ↔ YieldsTo (sums_shown leads.now) pair.now.j pair.now.i j }
 {
-    if !is_within(above, pair.above) {
-        return false;
-    }
-    if !divides_lcm(leads, pair.i as usize, pair.j as usize, j) {
+    let (i, h) = (pair.i as usize, pair.j as usize);
+    if !lcm_is_reached(leads, i, h, j, pair.above, above) {
         return false;
     }
     if above != pair.above {
         return true;
     }
-    !divides_lcm(leads, j, pair.j as usize, pair.i as usize)
+    !lcm_is_reached(leads, j, h, i, above, pair.above)
 }
 
 // Have two pairs with one new member one lcm? Those that have not differ in their bits most often.
@@ -72,10 +86,11 @@ fn have_one_lcm(leads: &Leads, pair: &NewPair, other: &NewPair) -> bool
     if other.above != pair.above {
         return false;
     }
-    if !divides_lcm(leads, pair.i as usize, pair.j as usize, other.i as usize) {
+    let (i, h, j) = (pair.i as usize, pair.j as usize, other.i as usize);
+    if !lcm_is_reached(leads, i, h, j, pair.above, other.above) {
         return false;
     }
-    divides_lcm(leads, other.i as usize, pair.j as usize, pair.i as usize)
+    lcm_is_reached(leads, j, h, i, other.above, pair.above)
 }
 
 // Are the pair and that of j with the same new member of one group?

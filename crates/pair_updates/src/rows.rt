@@ -2,7 +2,7 @@
 ghost use Rattle.std.specs.Prelude.{ℕ, ◌≡◌, ◌<◌, ◌≤◌, ◌↔◌, ◌-◌, IsTrue, bit_and, length, ltb, max, slice_index};
 ghost use Rattle.std.specs.Simd.Lanes.{mask_l, zip2};
 ghost use Rattle.monomials.specs.Exponents.{exponents_of};
-ghost use Rattle.pair_updates.specs.Rows.{EachHasMissing, exceeding, row};
+ghost use Rattle.pair_updates.specs.Rows.{EachHasMissing, TellsAll, exceeding, row};
 
 use monomial_orders::Mono;
 use std::simd::prelude::*;
@@ -68,6 +68,13 @@ pub(crate) fn is_within(a: u64, b: u64) -> bool
     ensures { IsTrue result ↔ (bit_and a b ≡ a) }
 {
     a & b == a
+}
+
+/// Has the word none of the bits for excesses above 3? Then its other bits count each excess.
+pub(crate) fn tells_all(word: u64) -> bool
+    ensures { IsTrue result ↔ TellsAll word }
+{
+    word >> 48 == 0
 }
 
 // The first word from this place on that has none of the missing bits; the number of words where there is none.

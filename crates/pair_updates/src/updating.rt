@@ -194,7 +194,7 @@ fn update_with(
     Ok(())
 }
 
-//// The queue after the updates with the members from number `first` on, and the pairs that they drop.
+/// The queue after the updates with the members from number `first` on, and the pairs that they drop.
 pub fn updated(
     alloc: Global,
     leads: &Leads,

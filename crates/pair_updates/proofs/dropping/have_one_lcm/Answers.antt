@@ -5,6 +5,22 @@ use Rattle.pair_updates.proofs.MetPairs.{kept_same, other_pair}
 use Rattle.pair_updates.specs.Leads.{sums_shown}
 use Rattle.pair_updates.proofs.dropping.have_one_lcm.Goals as goal
 
+pub lcm_is_reached-requires : goal.lcm_is_reached-requires
+lcm_is_reached-requires c =
+    let m = c.args.leads.now in
+    let x = c.args.pair.now in record {
+      pair = record { pair = c.requires.pair.pair; above = c.requires.pair.above };
+      other = other_pair m x.j c.args.other.now c.requires.other c.requires.one;
+    }
+
+pub lcm_is_reached-requires-2 : goal.lcm_is_reached-requires-2
+lcm_is_reached-requires-2 c =
+    let m = c.args.leads.now in
+    let x = c.args.pair.now in record {
+      pair = other_pair m x.j c.args.other.now c.requires.other c.requires.one;
+      other = record { pair = c.requires.pair.pair; above = c.requires.pair.above };
+    }
+
 pub returns-then-other-pair : goal.returns-then-other-pair
 returns-then-other-pair c =
     let m = c.args.leads.now in
@@ -17,14 +33,14 @@ returns-then-other-pair c =
           (group_second (sums_shown m) x.j x.i y.i o.pair.within o.pair.ordered c.requires.pair.pair g)))),
     )
 
-pub returns-then-not-divides_lcm : goal.returns-then-not-divides_lcm
-returns-then-not-divides_lcm c =
+pub returns-then-not-lcm_is_reached : goal.returns-then-not-lcm_is_reached
+returns-then-not-lcm_is_reached c =
     let m = c.args.leads.now in
     let x = c.args.pair.now in
     let y = c.args.other.now in
     let o = other_pair m x.j y c.requires.other c.requires.one in (
       (λ e. absurd (false≢true e)),
-      (λ g. absurd (not_true _ c.if-not-divides_lcm.true (c.divides_lcm.ensures.1
+      (λ g. absurd (not_true _ c.if-not-lcm_is_reached.true (c.lcm_is_reached.ensures.1
           (group_first (sums_shown m) x.j x.i y.i o.pair.within o.pair.ordered c.requires.pair.pair g)))),
     )
 
@@ -34,8 +50,8 @@ returns c =
     let x = c.args.pair.now in
     let y = c.args.other.now in
     let o = other_pair m x.j y c.requires.other c.requires.one in (
-      (λ t. group (sums_shown m) x.j x.i y.i o.pair.within o.pair.ordered c.requires.pair.pair (c.divides_lcm.ensures.0 c.if-not-divides_lcm.false)
-          (c.divides_lcm-2.ensures.0 t)),
-      (λ g. c.divides_lcm-2.ensures.1
+      (λ t. group (sums_shown m) x.j x.i y.i o.pair.within o.pair.ordered c.requires.pair.pair
+          (c.lcm_is_reached.ensures.0 c.if-not-lcm_is_reached.false) (c.lcm_is_reached-2.ensures.0 t)),
+      (λ g. c.lcm_is_reached-2.ensures.1
           (group_second (sums_shown m) x.j x.i y.i o.pair.within o.pair.ordered c.requires.pair.pair g)),
     )
