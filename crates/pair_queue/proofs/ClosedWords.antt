@@ -11,6 +11,7 @@ use Rattle.pair_queue.proofs.Mirroring.{flag_within}
 use Rattle.pair_queue.proofs.Putting.{chain_third, either, made_chain, no_flag, not_flagged}
 use Rattle.pair_updates.specs.Leads.{LeadsShown, sums_shown}
 use Rattle.pair_updates.specs.LeadCriteria.{DividesLcm}
+use Rattle.pair_queue.specs.Rows.{NoneWithout}
 use Rattle.pair_queue.specs.Skipping.{ChainSpares}
 use Rattle.pair_queue.specs.Tables.{TableShown, flag, flagged, member_count}
 
@@ -160,3 +161,17 @@ module _ (m : LeadsShown) (start old new w : TableShown) (a k index found : ℕ)
       go : (d < 64 * index) ⊎ (64 * index ≤ d) → ⊥
       go (inl q) = before d q (fewer (pair_of a d) t) chain
       go (inr q) = here (omega (arith, q)) (omega (arith, q, l)) (cases_eq (bit_at found at) 1)
+
+-- ---- words that are passed over
+pub frees_passed :
+    (m : LeadsShown) (due w : TableShown) (a k from next : ℕ)
+    → NoneWithout (λ c. flag due (pair_of a c)) (λ c. flag w (pair_of k c)) from next
+    → ((d : ℕ) → d < 64 * from → flag due (pair_of a d) ≡ true → ChainSpares m (flag w) (pair_of a d) k → ⊥)
+    → (d : ℕ) → d < 64 * next → flag due (pair_of a d) ≡ true → ChainSpares m (flag w) (pair_of a d) k → ⊥
+frees_passed m due w a k from next none before d l t chain = go (cases_lt d (64 * from))
+  where
+    go : (d < 64 * from) ⊎ (64 * from ≤ d) → ⊥
+    go (inl q) = before d q t chain
+    go (inr q) =
+        no_flag (flag w) (pair_of k d) (chain_third (sums_shown m) (flagged (flag w)) a d k chain)
+        (neither (flag due (pair_of a d)) (flag w (pair_of k d)) (none d q l) t)

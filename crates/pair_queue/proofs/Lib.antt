@@ -13,3 +13,4 @@ pub mod Adding
 pub mod Knowing
 pub mod SkippedPairs
 pub mod Handing
+pub mod MemberRows

@@ -10,7 +10,7 @@ use Rattle.std.proofs.lemmas.List.FromFn.{get_or-map-range_with_len, length-map-
 use Rattle.std.proofs.Math.Nat.{div-le_self}
 use Rattle.std.proofs.lemmas.Nat.{shr-shr}
 use Rattle.std.proofs.lemmas.Nat.Bits.{bit_at-lt, bit_at-zero, bit_at_and, bit_at_clear_other, bit_at_clear_same, bit_at_not, bit_at_set_other, bit_at_set_same}
-use Rattle.pair_queue.specs.Rows.{flag_of, flags_of}
+use Rattle.pair_queue.specs.Rows.{HasWithout, NoneWithout, flag_of, flags_of}
 
 pub length-flags_of : (words : List ℕ) → length (flags_of words) ≡ 64 * length words
 unfolding flags_of
@@ -146,3 +146,26 @@ bits_behind word place r = ap (λ z. z % 2) (shr-shr (word / 2 ^ place) 1 r ∙ 
 
 pub less_behind : (word place : ℕ) → 0 < word → word / 2 ^ place / 2 ^ 1 < word
 less_behind word place some = omega (arith, some, div-le_self word (2 ^ place))
+
+-- ---- words that are passed over
+pub none_by : (f g p q : ℕ → Bool) (i j : ℕ) → ((c : ℕ) → f c ≡ p c) → ((c : ℕ) → g c ≡ q c) → NoneWithout f g i j → NoneWithout p q i j
+none_by f g p q i j mine theirs h = λ c l m. sym (λ t. mine c t && not (theirs c t)) ∙ h c l m
+
+pub has_by : (f g p q : ℕ → Bool) (i : ℕ) → ((c : ℕ) → f c ≡ p c) → ((c : ℕ) → g c ≡ q c) → HasWithout f g i → HasWithout p q i
+has_by f g p q i mine theirs (c, l, m, h) = (c, l, m, sym (λ t. mine c t && not (theirs c t)) ∙ h)
+
+-- a bit of a word is a flag
+pub has_in_word :
+    (mine theirs : List ℕ) (index word r : ℕ) → r < 64 → bit_at word r ≡ 1
+    → ((r : ℕ) → r < 64 → (bit_at word r == 1) ≡ ((bit_at (get_or mine index 0) r == 1) && not (bit_at (get_or theirs index 0) r == 1)))
+    → HasWithout (flag_of mine) (flag_of theirs) index
+has_in_word mine theirs index word r low one bits =
+    let quotient : (64 * index + r) / 64 ≡ index = omega (arith, low) in
+    let rest : (64 * index + r) % 64 ≡ r = omega (arith, low) in (
+      64 * index + r,
+      omega arith,
+      omega (arith, low),
+      (λ i. (bit_at (get_or mine (quotient i) 0) (rest i) == 1) && not (bit_at (get_or theirs (quotient i) 0) (rest i) == 1))
+          ∙ sym (bits r low)
+          ∙ eq-eqb (bit_at word r) 1 one,
+    )

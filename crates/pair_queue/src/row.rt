@@ -1,7 +1,7 @@
 // One row of a table.
 ghost use Rattle.std.specs.Int.{bit_at};
-ghost use Rattle.std.specs.Prelude.{ℕ, [], ◌≡◌, ◌<◌, ◌≤◌, ◌&&◌, ◌==◌, OnOk, cond, false, get_or, nat_eq, not, length};
-ghost use Rattle.pair_queue.specs.Rows.{IsWithout};
+ghost use Rattle.std.specs.Prelude.{ℕ, [], ◌≡◌, ◌<◌, ◌≤◌, ◌+◌, ◌*◌, ◌&&◌, ◌==◌, OnOk, cond, false, get_or, nat_eq, not, length, true};
+ghost use Rattle.pair_queue.specs.Rows.{HasWithout, IsWithout, NoneWithout, flag_of};
 
 use module_vectors::NoMemory;
 use std::alloc::Global;
@@ -53,6 +53,63 @@ fn flags_without(mine: u64, theirs: u64) -> u64
     mine & !theirs
 }
 
+// Has the one row a flag in its word with this index that the other has not?
+fn has_without(mine: &[u64], theirs: &[u64], index: usize) -> bool
+    requires mine { index < length mine.now }
+    requires theirs { index < length theirs.now }
+    ensures none { result ≡ false → NoneWithout (flag_of mine.now) (flag_of theirs.now) index (index + 1) }
+    ensures some { result ≡ true → HasWithout (flag_of mine.now) (flag_of theirs.now) index }
+{
+    flags_without(mine[index], theirs[index]) != 0
+}
+
+// The first index from this one on, before the end, at which the one row has a flag that the other has not; the end where there is none.
+fn without_in_turn(mine: &[u64], theirs: &[u64], from: usize, end: usize) -> usize
+    requires order { from ≤ end }
+    requires mine { end ≤ length mine.now }
+    requires theirs { end ≤ length theirs.now }
+    ensures late { from ≤ result }
+    ensures bound { result ≤ end }
+    ensures before { NoneWithout (flag_of mine.now) (flag_of theirs.now) from result }
+    ensures found { result < end → HasWithout (flag_of mine.now) (flag_of theirs.now) result }
+{
+    for i in from..end {
+        if has_without(mine, theirs, i) {
+            return i;
+        }
+    }
+    end
+}
+
+// The same, sooner. Most words have none, and there are many: so the loop looks at four in each turn.
+fn next_index(mine: &[u64], theirs: &[u64], from: usize, end: usize) -> usize
+    requires order { from ≤ end }
+    requires mine { end ≤ length mine.now }
+    requires theirs { end ≤ length theirs.now }
+    ensures late { from ≤ result }
+    ensures bound { result ≤ end }
+    ensures before { NoneWithout (flag_of mine.now) (flag_of theirs.now) from result }
+    ensures found { result < end → HasWithout (flag_of mine.now) (flag_of theirs.now) result }
+{
+    let mut i = from;
+    while end - i > 3 {
+        if has_without(mine, theirs, i) {
+            return i;
+        }
+        if has_without(mine, theirs, i + 1) {
+            return i + 1;
+        }
+        if has_without(mine, theirs, i + 2) {
+            return i + 2;
+        }
+        if has_without(mine, theirs, i + 3) {
+            return i + 3;
+        }
+        i += 4;
+    }
+    without_in_turn(mine, theirs, i, end)
+}
+
 impl Row {
     /// A row for no members.
     pub(crate) fn new(alloc: Global) -> Row
@@ -98,5 +155,18 @@ impl Row {
         ensures { IsWithout self.now.flags other.now.flags index result }
     {
         flags_without(word_at(&self.words, index), word_at(&other.words, index))
+    }
+
+    /// The first index from this one on, before the end, for which `word_without` is not 0; the end where there is none.
+    pub(crate) fn next_without(&self, other: &Row, from: usize, end: usize) -> usize
+        requires order { from ≤ end }
+        requires mine { 64 * end < length self.now.flags + 64 }
+        requires theirs { 64 * end < length other.now.flags + 64 }
+        ensures late { from ≤ result }
+        ensures bound { result ≤ end }
+        ensures before { NoneWithout (λ c. get_or self.now.flags c false) (λ c. get_or other.now.flags c false) from result }
+        ensures found { result < end → HasWithout (λ c. get_or self.now.flags c false) (λ c. get_or other.now.flags c false) result }
+    {
+        next_index(&self.words, &other.words, from, end)
     }
 }

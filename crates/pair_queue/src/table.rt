@@ -2,6 +2,7 @@
 ghost use Rattle.std.specs.Int.{bit_at};
 ghost use Rattle.std.specs.Prelude.{ℕ, ◌≡◌, ◌<◌, ◌≤◌, ◌+◌, ◌*◌, ◌&&◌, ◌==◌, OnErr, OnOk, cond, false, length, nat_eq, not};
 ghost use Rattle.basis_steps.specs.Pairs.{Pair as PlainPair, is_same_pair, pair_of};
+ghost use Rattle.pair_queue.specs.Rows.{HasWithout, NoneWithout};
 ghost use Rattle.pair_queue.specs.Tables.{AreWide, AreWideTo, HasSameFlags, flag, has_at, member_count, room};
 
 use crate::row::Row;
@@ -168,5 +169,27 @@ impl Table {
             → (bit_at result r == 1) ≡ (flag self.now (pair_of a (64 * index + r)) && not (flag other.now (pair_of b (64 * index + r)))) }
     {
         self.rows[a].word_without(&other.rows[b], index)
+    }
+
+    /// The first index from this one on, before the end, for which `word_without` is not 0; the end where there is none.
+    pub(crate) fn next_without(
+        &self,
+        a: usize,
+        other: &Table,
+        b: usize,
+        from: usize,
+        end: usize,
+    ) -> usize
+        requires a { a < member_count self.now }
+        requires b { b < member_count self.now }
+        requires sizes { member_count other.now ≡ member_count self.now }
+        requires order { from ≤ end }
+        requires end { 64 * end < member_count self.now + 64 }
+        ensures late { from ≤ result }
+        ensures bound { result ≤ end }
+        ensures before { NoneWithout (λ c. flag self.now (pair_of a c)) (λ c. flag other.now (pair_of b c)) from result }
+        ensures found { result < end → HasWithout (λ c. flag self.now (pair_of a c)) (λ c. flag other.now (pair_of b c)) result }
+    {
+        self.rows[a].next_without(&other.rows[b], from, end)
     }
 }

@@ -3,7 +3,7 @@ use Rattle.std.specs.Int.{bit_at}
 use Rattle.std.proofs.lemmas.Bool.{false≢true}
 use Rattle.basis_steps.specs.Pairs.{Pair, pair_of}
 use Rattle.pair_updates.specs.LeadCriteria.{DividesLcm}
-use Rattle.pair_queue.proofs.ClosedWords.{IsClosedBy, bit_here, chains_more, frees_more, member_of}
+use Rattle.pair_queue.proofs.ClosedWords.{IsClosedBy, bit_here, chains_more, frees_more, frees_passed, member_of}
 use Rattle.pair_queue.proofs.Reaching.{free_of_all, room_of_index}
 use Rattle.pair_queue.specs.Reaches.{FallsShort, place_of_word}
 use Rattle.pair_queue.specs.Tables.{flag}
@@ -20,8 +20,16 @@ loop-index-init c = record {
   sizes = c.requires.due;
   fewer = λ x e. e;
   closed = λ x e f. absurd (false≢true (sym e ∙ f));
-  free = λ d l. absurd (omega (arith, l));
+  free = frees_passed c.args.leads.now c.args.due.now c.args.waits.now c.args.a c.args.k 0 c.next_without-index.result c.next_without-index.ensures.before
+      (λ d l. absurd (omega (arith, l)));
 }
+
+pub next_without-index-requires-clause-end : goal.next_without-index-requires-clause-end
+next_without-index-requires-clause-end c = omega (arith, c.len.ensures, c.div_ceil-end.ensures, c.requires.due)
+
+pub next_without-index-requires-in-loop-index-clause-end : goal.next_without-index-requires-in-loop-index-clause-end
+next_without-index-requires-in-loop-index-clause-end c =
+    omega (arith, c.len.ensures, c.div_ceil-end.ensures, c.close_each.ensures.sizes, c.loop-index.invariant.sizes)
 
 pub close_each-requires-clause-a : goal.close_each-requires-clause-a
 close_each-requires-clause-a c = c.requires.a
@@ -38,7 +46,7 @@ reaching-reaching-requires-clause-room c = λ v lv.
     let index = c.loop-index.index in
     let n : length c.exponents-above.result.now ≡ c.args.leads.now.variables = ap length c.exponents-above.ensures.value ∙ c.at.ensures.variables in
     let first : 64 * index < length c.args.leads.now.keys =
-    omega (arith, c.loop-index-test.true, c.len.ensures, c.div_ceil-index-end.ensures, c.loop-index.auto.index-end) in
+    omega (arith, c.loop-index-test.true, c.len.ensures, c.div_ceil-end.ensures) in
     subst (λ (z : ℕ). place_of_word z index v 15 ≤ length c.args.reach.now.words.items) (sym n)
     (room_of_index c.args.leads.now c.args.reach.now index v c.requires.reach first (omega (arith, lv, n)))
 
@@ -74,13 +82,12 @@ loop-index-preserved c =
       fewer = λ x e. inv.fewer x (c.close_each.ensures.fewer x e);
       closed = chains_more m c.args.due.now old new c.args.waits.now c.args.a c.args.k index found c.word_without-found.ensures c.requires.k c.requires.apart
           c.requires.gone c.requires.shut closed inv.closed;
-      free = frees_more m c.args.due.now old new c.args.waits.now c.args.a c.args.k index found c.word_without-found.ensures c.requires.k c.requires.apart
-          c.requires.gone c.requires.shut c.close_each.ensures.fewer free inv.free;
+      free = frees_passed m new c.args.waits.now c.args.a c.args.k (index + 1) c.next_without-index-in-loop-index.result c.next_without-index-in-loop-index.ensures.before
+          (frees_more m c.args.due.now old new c.args.waits.now c.args.a c.args.k index found c.word_without-found.ensures c.requires.k c.requires.apart
+          c.requires.gone c.requires.shut c.close_each.ensures.fewer free inv.free);
     }
 
 pub returns-clause-free : goal.returns-clause-free
 returns-clause-free c = λ d f chain.
     let inv = c.loop-index.invariant in
-    let all = c.loop-index-test.false in
-    let end = c.loop-index.auto.index-end in
-    inv.free d (omega (arith, member_of c.loop-index.due c.args.a d f, inv.sizes, all, c.len.ensures, c.div_ceil-index-end.ensures, end)) f chain
+    inv.free d (omega (arith, member_of c.loop-index.due c.args.a d f, inv.sizes, c.loop-index-test.false, c.len.ensures, c.div_ceil-end.ensures)) f chain

@@ -1,4 +1,4 @@
-use Rattle.std.proofs.Common.{false, length, true, ℕ, ◌*◌, ◌<◌, ◌≡◌}
+use Rattle.std.proofs.Common.{false, length, true, ℕ, ◌*◌, ◌-◌, ◌<◌, ◌≡◌}
 use Rattle.basis_steps.specs.Pairs.{Pair, pair_of}
 use Rattle.pair_queue.specs.Skipping.{ChainSpares}
 use Rattle.pair_queue.specs.Tables.{flag, member_count}
@@ -12,3 +12,6 @@ invariant-loop-index l = record {
   closed : (x : Pair) → flag l.due x ≡ false → flag l.fn.due x ≡ true → ChainSpares l.leads (flag l.waits) x l.k;
   free : (d : ℕ) → d < 64 * l.index → flag l.due (pair_of l.a d) ≡ true → ChainSpares l.leads (flag l.waits) (pair_of l.a d) l.k → ⊥;
 }
+
+abbrev pub decreases-loop-index : goal.decreases-loop-index
+decreases-loop-index l = l.end - l.index
