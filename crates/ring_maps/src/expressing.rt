@@ -3,13 +3,12 @@ ghost use Rattle.std.specs.Prelude.{◌≡◌, ◌≤◌, IfOk, IfErr, OnOk, [],
 ghost use Rattle.formal_sums.specs.FormalSums.{Each};
 ghost use Rattle.term_lists.specs.Rings.{ring_comparison, variables};
 ghost use Rattle.term_lists.specs.Vectors.{AreVectorsOver, HasPositions, IsVectorOver};
-ghost use Rattle.vector_division.specs.Divisions.{DivisionStops};
 ghost use Rattle.risen_counts.specs.Counts.{RoseAtMost};
 ghost use Rattle.groebner_iface.specs.Calls.{CallStops};
 ghost use Rattle.ideal_ops.specs.Products.{WorkStops};
 ghost use Rattle.ring_maps.specs.Maps.{IsExpressionAnswer};
 ghost use Rattle.ring_maps.specs.Graphs.{IsExpressionTrail, IsGraphRun};
-ghost use Rattle.ring_maps.specs.GraphSteps.{IsGraphDivision, IsGraphBasis};
+ghost use Rattle.ring_maps.specs.GraphSteps.{IsGraphBasis};
 
 use crate::first_variables::first_vector;
 use crate::graph::graph_basis;
@@ -17,33 +16,11 @@ use crate::second_variables::second_vector;
 use groebner_iface::{Groebner, OpStop};
 use ideal_ops::is_free;
 use module_vectors::{Ring, Vect, VectList, WorkStop, lawful_setting};
+use remainders::remainder;
 use risen_counts::counted_times;
 use std::alloc::Global;
 use std::sync::Wait;
 use std::thread::Threads;
-use vector_division::{Reduction, divisors_from_last, reduce_by};
-
-// What was left.
-fn rest_of(reduction: Reduction) -> Vect
-    ensures { result ≡ reduction.rest }
-{
-    reduction.rest
-}
-
-// What a division of u by the basis leaves, where the last of its vectors are tried first.
-fn remainder(alloc: Global, graph: &Ring, u: &Vect, basis: &VectList) -> Result<Vect, WorkStop>
-    requires vector { IsVectorOver graph.now (ring_comparison graph.now) u.now }
-    requires basis { AreVectorsOver graph.now (ring_comparison graph.now) basis.now }
-    ensures rest { IfOk result (IsVectorOver graph.now (ring_comparison graph.now)) }
-    ensures remainder { IfOk result (IsGraphDivision graph.now basis.now u.now) }
-    ensures stop { IfErr result (DivisionStops graph.now u.now basis.now) }
-{
-    let divisors = divisors_from_last(alloc, basis)?;
-    match reduce_by(alloc, graph, u, basis, &divisors) {
-        Ok(reduction) => Ok(rest_of(reduction)),
-        Err(stop) => Err(stop),
-    }
-}
 
 // The polynomial with the image g, by the reduced basis of the graph.
 fn expressed(

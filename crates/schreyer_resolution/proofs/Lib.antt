@@ -7,7 +7,6 @@ pub mod Starting
 pub mod Places
 pub mod Lengths
 pub mod Pairing
-pub mod NumberedSums
 pub mod Substitution
 pub mod Rows
 pub mod SharedColumns

@@ -28,7 +28,8 @@ use Rattle.schreyer_resolution.proofs.Making.{negated, terms_negated, whole_syzy
 use Rattle.schreyer_resolution.proofs.FirstMaps.{pair_at}
 use Rattle.schreyer_resolution.proofs.Trailing.{key_inside}
 use Rattle.schreyer_resolution.specs.Columns.{AreColumnsTo, IsColumnOf, negated_term}
-use Rattle.schreyer_resolution.specs.Sharing.{AreLastQuotients, AreColumnsMade, AreReduced, IsLastQuotient, IsColumnMade}
+use Rattle.numbered_sums.specs.ProductEntries.{AreReduced}
+use Rattle.schreyer_resolution.specs.Sharing.{AreLastQuotients, AreColumnsMade, IsLastQuotient, IsColumnMade}
 use Rattle.schreyer_resolution.specs.Steps.{IsLastDivisor}
 
 abbrev Terms : Type 0

@@ -8,37 +8,18 @@ ghost use Rattle.row_matrix.specs.Naming.{IsGrown};
 ghost use Rattle.row_matrix.specs.Rows.{AreKeys};
 ghost use Rattle.induced_leads.specs.Pairs.{AreNonzero};
 ghost use Rattle.induced_leads.specs.Spans.{IsIndexOf};
-ghost use Rattle.schreyer_resolution.specs.Sharing.{AreColumnHashes, AreReduced, IsLastProduct, IsProductEntries};
+ghost use Rattle.numbered_sums.specs.ProductEntries.{AreReduced, IsProductEntries};
+ghost use Rattle.schreyer_resolution.specs.Sharing.{AreColumnHashes, IsLastProduct};
 
 use induced_leads::{LeadIndex, last_divisor};
 use module_vectors::{Key, NoMemory, Ring, Vect};
 use monomial_orders::Mono;
-use row_matrix::{KeyTable, ProductStop, TermHashes, kept_number, product_row};
+use numbered_sums::{Product, numbered_product};
+use row_matrix::{KeyTable, ProductStop, TermHashes, kept_number};
 use std::alloc::Global;
 
 // More keys than these are not numbered.
 const MOST_KEYS: usize = 1 << 22;
-
-/// The product of a monomial and the last column whose lead divides a key, by the column's index: the number of the key, which
-/// is its lead, and each of its keys by its number, with its residue.
-pub(crate) struct Product {
-    pub(crate) number: u32,
-    pub(crate) index: u64,
-    pub(crate) monomial: Mono,
-    pub(crate) entries: Vec<(u32, u32)>,
-}
-
-// By hand, so that each drop of one is a call.
-impl Drop for Product {
-    fn drop(self) {
-        let Product {
-            number: _,
-            index: _,
-            monomial: _,
-            entries: _,
-        } = self;
-    }
-}
 
 /// The hashes of each column's keys.
 pub(crate) fn column_hashes(alloc: Global, columns: &[Vect]) -> Result<Vec<TermHashes>, NoMemory>
@@ -71,13 +52,14 @@ pub(crate) fn column_product(
     ensures keys { OnOk result (AreKeys (variables ring.now) ring.now.weights numbers.new) }
     ensures grown { IfOk result (λ row. IsGrown numbers.old numbers.new row.items) }
 {
-    let _ring = ring;
-    product_row(
+    numbered_product(
         alloc,
-        numbers,
+        ring,
+        columns,
+        index,
         monomial,
-        columns[index].terms(),
         &hashes[index],
+        numbers,
     )
 }
 

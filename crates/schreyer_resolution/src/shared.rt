@@ -1,5 +1,5 @@
 // The columns of the next map by products that they share.
-ghost use Rattle.std.specs.Prelude.{List, ℕ, ◌≡◌, ◌<◌, ◌++◌, ◌∷◌, [], IfOk, IfSome, IsTrue, OnOk, length, map};
+ghost use Rattle.std.specs.Prelude.{◌≡◌, ◌<◌, ◌++◌, ◌∷◌, [], IfOk, IfSome, IsTrue, OnOk, length, map};
 ghost use Rattle.std.specs.declared.cmp.Ordering.TheVariants.{Greater};
 ghost use Rattle.formal_sums.specs.FormalSums.{Each};
 ghost use Rattle.orders.specs.KeyOrders.{Descends};
@@ -12,69 +12,19 @@ ghost use Rattle.induced_leads.specs.Pairs.{AreNonzero};
 ghost use Rattle.induced_leads.specs.Spans.{IsIndexOf};
 ghost use Rattle.induced_leads.specs.PairLeads.{ArePairLeads, IsBase};
 ghost use Rattle.schreyer_resolution.specs.Columns.{AreColumnsTo, IsAbove};
-ghost use Rattle.schreyer_resolution.specs.Sharing.{AreColumnHashes, AreColumnsMade, AreReduced, AreZeroSums, IsLastProduct, IsColumnMade, IsProductEntries};
+ghost use Rattle.numbered_sums.specs.KeySums.{AreZeroSums};
+ghost use Rattle.numbered_sums.specs.ProductEntries.{AreReduced, IsProductEntries};
+ghost use Rattle.schreyer_resolution.specs.Sharing.{AreColumnHashes, AreColumnsMade, IsLastProduct, IsColumnMade};
 
 use crate::column::column_terms;
-use crate::numbered::{Product, all_products, column_hashes, column_product, number_products};
-use crate::substituting::{Order, Work, no_work, place_at, quotients_of};
+use crate::numbered::{all_products, column_hashes, column_product, number_products};
+use crate::substituting::quotients_of;
 use induced_leads::{Induced, LeadIndex};
 use module_vectors::{Frame, Key, NoMemory, Ring, Vect, VectList, lawful_setting};
-use row_matrix::{KeyTable, ProductStop, TermHashes, kept_number, number_columns};
+use numbered_sums::{Order, Product, Work, no_work, order_of};
+use row_matrix::{KeyTable, ProductStop, TermHashes};
 use std::alloc::Global;
 use std::cmp::Ordering;
-
-// Puts a copy of the key with this number behind the others.
-fn push_lead(alloc: Global, keys: &[Key], number: u32, leads: &mut Vec<Key>) -> Result<(), NoMemory>
-    ensures { OnOk result ((n : ℕ) (ws : List ℕ) → AreKeys n ws keys.now → AreKeys n ws leads.old.items → AreKeys n ws leads.new.items) }
-{
-    let at = number as usize;
-    if at >= keys.len() {
-        return Ok(());
-    }
-    leads.push(keys[at].try_copy(alloc)?)?;
-    Ok(())
-}
-
-// Copies of the products' leads, which are keys of the table.
-fn product_leads(
-    alloc: Global,
-    numbers: &KeyTable,
-    products: &[Product],
-) -> Result<Vec<Key>, NoMemory>
-    ensures { (n : ℕ) (ws : List ℕ) → AreKeys n ws numbers.now → IfOk result (λ leads. AreKeys n ws leads.items) }
-{
-    let keys = numbers.keys();
-    let mut leads = Vec::with_capacity(alloc, products.len())?;
-    for i in 0..products.len() {
-        push_lead(alloc, keys, products[i].number, &mut leads)?;
-    }
-    Ok(leads)
-}
-
-// The places of the products' leads among these, the products' indices by these places, and for each other key a place past the end.
-fn order_of<F: Frame>(
-    alloc: Global,
-    frame: &F,
-    numbers: &KeyTable,
-    products: &[Product],
-) -> Result<Order, NoMemory>
-    requires { AreKeys (variables (F.over frame.now)) (F.over frame.now).weights numbers.now }
-{
-    let leads = product_leads(alloc, numbers, products)?;
-    let numbering = number_columns(alloc, frame, leads.as_slice())?;
-    let mut places = vec![in alloc; u32::MAX; numbers.len()]?;
-    let mut turns = vec![in alloc; u32::MAX; products.len()]?;
-    for i in 0..products.len() {
-        let turn = kept_number(i)?;
-        let place = place_at(&numbering.places, turn);
-        let number = products[i].number as usize;
-        if place < turns.len() && number < places.len() {
-            turns[place] = turn;
-            places[number] = kept_number(place)?;
-        }
-    }
-    Ok(Order { places, turns })
-}
 
 // Is this `Greater`?
 fn is_greater(order: Ordering) -> bool

@@ -14,10 +14,10 @@ ghost use Rattle.vector_division.specs.Divisions.{DivisionStops};
 use crate::stored::Stored;
 use groebner_iface::{Groebner, Stop, one_basis};
 use module_vectors::{Ring, Vect, VectList, WorkStop, lawful_setting};
+use remainders::remainder;
 use std::alloc::Global;
 use std::sync::Wait;
 use std::thread::Threads;
-use vector_division::{Reduction, divisors_from_last, reduce_by};
 
 /// Keeps the reduced basis of a value, by one run if there is none yet and else by none. An error is the run's, and then nothing is kept.
 pub fn keep_basis<R: Threads + Wait + Sync, B: Groebner>(
@@ -75,13 +75,6 @@ pub fn is_one_module(ring: &Ring, left: &VectList, right: &VectList) -> bool
     is_same_list(left.as_slice(), right.as_slice())
 }
 
-// What a division left.
-fn rest_of(reduction: Reduction) -> Vect
-    ensures { result ≡ reduction.rest }
-{
-    reduction.rest
-}
-
 /// The normal form of a vector modulo a list with this reduced basis. Of the members whose leads divide a key that with the
 /// smallest lead is taken, so that products stay small. `Degree` comes with a trail of the division, `Memory` where a growth was refused.
 pub fn normal_form(alloc: Global, ring: &Ring, v: &Vect, basis: &VectList) -> Result<Vect, WorkStop>
@@ -92,9 +85,8 @@ pub fn normal_form(alloc: Global, ring: &Ring, v: &Vect, basis: &VectList) -> Re
     ensures stop { IfErr result (DivisionStops ring.now v.now basis.now) }
 {
     lawful_setting(ring);
-    let divisors = divisors_from_last(alloc, basis)?;
-    match reduce_by(alloc, ring, v, basis, &divisors) {
-        Ok(reduction) => Ok(rest_of(reduction)),
+    match remainder(alloc, ring, v, basis) {
+        Ok(rest) => Ok(rest),
         Err(stop) => Err(stop),
     }
 }

@@ -14,8 +14,8 @@ first_vector-requires-clause-graph c = c.requires.basis.run.doubled
 pub first_vector-requires-clause-terms : goal.first_vector-requires-clause-terms
 first_vector-requires-clause-terms c = loose c.args.ring.now c.args.g.now c.requires.vector.each
 
-pub remainder-requires-clause-basis : goal.remainder-requires-clause-basis
-remainder-requires-clause-basis c = c.requires.basis.reduced.vectors
+pub remainder-requires-clause-list : goal.remainder-requires-clause-list
+remainder-requires-clause-list c = c.requires.basis.reduced.vectors
 
 pub returns-in-Err-clause-stop : goal.returns-in-Err-clause-stop
 returns-in-Err-clause-stop c =

@@ -6,7 +6,7 @@ use Rattle.term_lists.specs.Vectors.{key_of}
 use Rattle.induced_leads.specs.Spans.{IsFoundLast}
 use Rattle.schreyer_resolution.proofs.Rows.{last_found, products_more}
 use Rattle.schreyer_resolution.specs.Sharing.{IsLastProduct}
-use Rattle.schreyer_resolution.specs.declared.numbered.Product.{Product}
+use Rattle.numbered_sums.specs.declared.products.Product.{Product}
 use Rattle.schreyer_resolution.proofs.numbered.push_product.Goals as goal
 
 pub returns-in_ok-keep_product-in-Some-clause-products :

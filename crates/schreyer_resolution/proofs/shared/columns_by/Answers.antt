@@ -1,7 +1,8 @@
 use Rattle.std.proofs.Common.{arith, length, subst, sym, ◌+◌, ◌≡◌}
 use Rattle.std.specs.Prelude.{IfSome}
 use Rattle.schreyer_resolution.proofs.SharedColumns.{made_next, made_none}
-use Rattle.schreyer_resolution.specs.Sharing.{AreColumnsMade, AreZeroSums, IsColumnMade}
+use Rattle.numbered_sums.specs.KeySums.{AreZeroSums}
+use Rattle.schreyer_resolution.specs.Sharing.{AreColumnsMade, IsColumnMade}
 use Rattle.schreyer_resolution.proofs.shared.columns_by.Goals as goal
 
 pub loop-key-init : goal.loop-key-init

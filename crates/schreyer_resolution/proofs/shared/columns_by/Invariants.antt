@@ -1,7 +1,8 @@
 use Rattle.formal_sums.specs.FormalSums.{Each}
 use Rattle.term_lists.specs.Rings.{variables}
 use Rattle.row_matrix.specs.Rows.{AreKeys}
-use Rattle.schreyer_resolution.specs.Sharing.{AreColumnsMade, AreZeroSums, IsLastProduct}
+use Rattle.numbered_sums.specs.KeySums.{AreZeroSums}
+use Rattle.schreyer_resolution.specs.Sharing.{AreColumnsMade, IsLastProduct}
 use Rattle.schreyer_resolution.proofs.shared.columns_by.Given as goal
 
 abbrev pub invariant-loop-key : goal.invariant-loop-key

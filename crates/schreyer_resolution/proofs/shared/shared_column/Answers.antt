@@ -5,7 +5,8 @@ use Rattle.formal_sums.specs.FormalSums.{Each}
 use Rattle.term_lists.specs.Rings.{variables}
 use Rattle.term_lists.specs.Vectors.{IsTerm}
 use Rattle.schreyer_resolution.proofs.SharedColumns.{column_terms_over, if_some, made_of}
-use Rattle.schreyer_resolution.specs.Sharing.{AreLastQuotients, AreZeroSums}
+use Rattle.numbered_sums.specs.KeySums.{AreZeroSums}
+use Rattle.schreyer_resolution.specs.Sharing.{AreLastQuotients}
 use Rattle.schreyer_resolution.proofs.shared.shared_column.Goals as goal
 
 pub column_terms-requires : goal.column_terms-requires

@@ -10,7 +10,8 @@ use Rattle.induced_leads.specs.Pairs.{AreNonzero}
 use Rattle.induced_leads.specs.Spans.{IsIndexOf}
 use Rattle.schreyer_resolution.proofs.SharedColumns.{columns_of_made, positions_of, vectors_reduced}
 use Rattle.schreyer_resolution.specs.Columns.{AreColumnsTo}
-use Rattle.schreyer_resolution.specs.Sharing.{AreColumnsMade, AreReduced}
+use Rattle.numbered_sums.specs.ProductEntries.{AreReduced}
+use Rattle.schreyer_resolution.specs.Sharing.{AreColumnsMade}
 use Rattle.schreyer_resolution.proofs.shared.shared_columns.Goals as goal
 
 pub made_columns-made-requires-clause-frame : goal.made_columns-made-requires-clause-frame

@@ -4,8 +4,10 @@ use Rattle.formal_sums.proofs.Combining.{Each_map}
 use Rattle.term_lists.proofs.Scaling.{Each_at}
 use Rattle.term_lists.specs.Rings.{variables}
 use Rattle.row_matrix.specs.Rows.{column_key}
-use Rattle.schreyer_resolution.proofs.Substitution.{taken_all, taken_start, written_back}
-use Rattle.schreyer_resolution.specs.Sharing.{AddsProduct, AreEntriesWithin, AreSmall, AreTakenQuotients, AreZeroSums}
+use Rattle.numbered_sums.proofs.Taking.{written_back}
+use Rattle.schreyer_resolution.proofs.Substitution.{taken_all, taken_start}
+use Rattle.numbered_sums.specs.KeySums.{AddsProduct, AreEntriesWithin, AreSmall, AreZeroSums}
+use Rattle.schreyer_resolution.specs.Sharing.{AreTakenQuotients}
 use Rattle.schreyer_resolution.proofs.substituting.quotients_of.Goals as goal
 
 pub add_multiple-requires-clause-small : goal.add_multiple-requires-clause-small

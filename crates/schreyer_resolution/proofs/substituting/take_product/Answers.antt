@@ -2,8 +2,10 @@ use Rattle.std.proofs.Common.{[], ap, arith, length, subst, subst₂, sym, ◌+�
 use Rattle.residues.proofs.Congruences.{IsCongruent_of, IsCongruent_trans}
 use Rattle.residues.specs.Residues.{IsCongruent}
 use Rattle.vector_division.specs.declared.reduction.ScaledProduct.{ScaledProduct}
-use Rattle.schreyer_resolution.proofs.Substitution.{cancelled, taken_more, written_back}
-use Rattle.schreyer_resolution.specs.Sharing.{AddsProduct, AreEntriesWithin, AreSmall, AreTakenQuotients, AreTouched}
+use Rattle.numbered_sums.proofs.Taking.{cancelled, written_back}
+use Rattle.schreyer_resolution.proofs.Substitution.{taken_more}
+use Rattle.numbered_sums.specs.KeySums.{AddsProduct, AreEntriesWithin, AreSmall, AreTouched}
+use Rattle.schreyer_resolution.specs.Sharing.{AreTakenQuotients}
 use Rattle.schreyer_resolution.proofs.substituting.take_product.Goals as goal
 
 pub add_multiple-requires-clause-small : goal.add_multiple-requires-clause-small
@@ -30,7 +32,7 @@ returns c =
     let new = c.add_multiple.new.sums in
     let touched = c.add_multiple.new.touched.items in
     let m = c.in_ok-monomial.monomial in
-    let lt : r < p = c.residue_at-residue.ensures in
+    let lt : r < p = c.residue_at-residue.ensures.reduced in
     let pos : 0 < r = omega (arith, c.if-residue-eq0.false) in
     let z : IsCongruent p (f + r) 0 = IsCongruent_trans (IsCongruent_of p _ _ (ap (λ x. x + r) c.neg.ensures.value)) (cancelled p r lt) in
     let adds : AddsProduct p f s.entries.items old.sums.items new = subst₂ (λ es xs. AddsProduct p f es xs new) c.deref.ensures.value c.as_mut_slice.ensures.value c.in_ok-add_multiple.ensures.adds in

@@ -1,0 +1,3 @@
+pub mod NumberedSums
+pub mod Taking
+pub mod ProductRows

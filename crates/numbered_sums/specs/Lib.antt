@@ -1,0 +1,2 @@
+pub mod KeySums
+pub mod ProductEntries

@@ -1,0 +1,5 @@
+-- what public clauses cite
+pub mod Remainders
+-- invariants of loops
+pub mod Hashed
+pub mod Leaving
