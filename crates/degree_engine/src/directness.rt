@@ -81,15 +81,30 @@ fn is_graded(alloc: Global, ring: &Ring, rank: u128, list: &VectList) -> Result<
     Ok(true)
 }
 
+// Have all variables one weight?
+fn have_one_weight(weights: &[u8]) -> bool {
+    for k in 1..weights.len() {
+        if weights[k] != weights[0] {
+            return false;
+        }
+    }
+    true
+}
+
+/// Is the list one of polynomials in the graded order?
+pub(crate) fn are_graded_polynomials(ring: &Ring, rank: u128) -> bool {
+    rank <= 1 && ring.order == Order::Grevlex
+}
+
 /// Does the list gain nothing by an attempt? It has homogeneous vectors, for some degrees of the positions, or polynomials in the
-/// graded order.
+/// graded order without weights.
 pub(crate) fn goes_directly(
     alloc: Global,
     ring: &Ring,
     rank: u128,
     list: &VectList,
 ) -> Result<bool, NoMemory> {
-    if rank <= 1 && ring.order == Order::Grevlex {
+    if are_graded_polynomials(ring, rank) && have_one_weight(ring.weights.as_slice()) {
         return Ok(true);
     }
     is_graded(alloc, ring, rank, list)

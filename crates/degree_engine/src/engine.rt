@@ -9,10 +9,10 @@ ghost use Rattle.groebner_iface.specs.Runs.{IsReducedBasisOf};
 use crate::attempt::{Attempts, Unanswered};
 use crate::by_change::by_change;
 use crate::by_degrees::by_degrees;
-use crate::directness::goes_directly;
+use crate::directness::{are_graded_polynomials, goes_directly};
 use crate::one_terms::{by_terms, have_one_term};
 use groebner_iface::{Groebner, Stop};
-use module_vectors::{Ring, VectList};
+use module_vectors::{NoMemory, Ring, VectList};
 use monomial_orders::Order;
 use std::alloc::Global;
 use std::sync::Wait;
@@ -23,9 +23,9 @@ const LONG: usize = 64;
 
 /// An engine over another. A long list of vectors of one term each is a basis as it stands. One that is not homogeneous is first run
 /// homogenised, and before that, where the order is not by degree, the basis of an ideal is taken from the one in the graded order
-/// if it has few standard monomials. Each attempt has an engine of its own. Where none has an answer, or the list goes directly,
-/// the engine `direct` runs the list itself. What stopped early is of that one alone. The runs that count are its own: the attempts
-/// for a list and the run of `direct` on it are parts of one.
+/// if it has few standard monomials; in the graded order under weights an ideal is attempted as it stands. Each attempt has an engine
+/// of its own. Where none has an answer, or the list goes directly, the engine `direct` runs the list itself. What stopped early is of
+/// that one alone. The runs that count are its own: the attempts for a list and the run of `direct` on it are parts of one.
 pub struct DegreeEngine<A, E> {
     pub attempts: A,
     pub direct: E,
@@ -71,7 +71,26 @@ fn may_have_few(ring: &Ring, list: &VectList) -> bool {
     ring.order != Order::Grevlex && list.len() >= ring.vars.len()
 }
 
-// The reduced basis of the list by one of the two ways, if one comes to it and the list does not go directly.
+// The reduced basis of the list by a run of this engine on the list itself.
+fn as_it_stands<R: Threads + Wait + Sync, E: Groebner>(
+    rt: &R,
+    alloc: Global,
+    engine: &mut E,
+    ring: &Ring,
+    rank: u128,
+    list: &VectList,
+) -> Result<VectList, Unanswered>
+    requires sync { IsSync R.row }
+    requires vectors { AreVectorsOver ring.now (ring_comparison ring.now) list.now }
+    requires positions { Each (HasPositions rank) list.now }
+    ensures { IfOk result (IsReducedBasisOf ring.now rank list.now) }
+{
+    let basis = engine.reduced(rt, alloc, ring, rank, list)?;
+    Ok(basis)
+}
+
+// The reduced basis of the list by one of these ways, if one comes to it and the list does not go directly. Under weights polynomials
+// in the graded order are run as they stand: homogenised they have bases several times as long.
 fn attempted<R: Threads + Wait + Sync, A: Attempts<E>, E: Groebner + Drop>(
     rt: &R,
     alloc: Global,
@@ -93,6 +112,9 @@ fn attempted<R: Threads + Wait + Sync, A: Attempts<E>, E: Groebner + Drop>(
     if goes_directly(alloc, ring, rank, list)? {
         return Err(Unanswered::Other);
     }
+    if are_graded_polynomials(ring, rank) {
+        return as_it_stands(rt, alloc, &mut attempts.engine(), ring, rank, list);
+    }
     if rank == 1 {
         if may_have_few(ring, list) {
             match by_change(rt, alloc, &mut attempts.engine(), ring, list) {
@@ -103,6 +125,31 @@ fn attempted<R: Threads + Wait + Sync, A: Attempts<E>, E: Groebner + Drop>(
         }
     }
     by_degrees(rt, alloc, &mut attempts.engine(), ring, rank, list)
+}
+
+// The reduced basis of the list by an engine for an attempt, in one way or as it stands.
+fn tried<R: Threads + Wait + Sync, A: Attempts<E>, E: Groebner + Drop>(
+    rt: &R,
+    alloc: Global,
+    attempts: &A,
+    ring: &Ring,
+    rank: u128,
+    list: &VectList,
+) -> Result<VectList, Unanswered>
+    requires sync { IsSync R.row }
+    requires vectors { AreVectorsOver ring.now (ring_comparison ring.now) list.now }
+    requires positions { Each (HasPositions rank) list.now }
+    ensures { IfOk result (IsReducedBasisOf ring.now rank list.now) }
+{
+    match attempted(rt, alloc, attempts, ring, rank, list) {
+        Ok(basis) => return Ok(basis),
+        Err(Unanswered::Memory) => return Err(Unanswered::Memory),
+        Err(Unanswered::Other) => {}
+    }
+    if !goes_directly(alloc, ring, rank, list)? {
+        return Err(Unanswered::Other);
+    }
+    as_it_stands(rt, alloc, &mut attempts.engine(), ring, rank, list)
 }
 
 impl<A: Attempts<E>, E: Groebner + Drop> Groebner for DegreeEngine<A, E> {
@@ -127,6 +174,21 @@ impl<A: Attempts<E>, E: Groebner + Drop> Groebner for DegreeEngine<A, E> {
             Ok(basis) => Ok(basis),
             Err(Unanswered::Memory) => Err(Stop::Memory),
             Err(Unanswered::Other) => self.direct.reduced(rt, alloc, ring, rank, list),
+        }
+    }
+
+    fn attempted<R: Threads + Wait + Sync>(
+        &self,
+        rt: &R,
+        alloc: Global,
+        ring: &Ring,
+        rank: u128,
+        list: &VectList,
+    ) -> Result<Option<VectList>, NoMemory> {
+        match tried(rt, alloc, &self.attempts, ring, rank, list) {
+            Ok(basis) => Ok(Some(basis)),
+            Err(Unanswered::Memory) => Err(NoMemory),
+            Err(Unanswered::Other) => Ok(None),
         }
     }
 }

@@ -1,6 +1,6 @@
 //! An engine over another one. A long list of vectors of one term each is a basis as it stands; one that is not homogeneous is run
 //! homogenised, and in an order that is not by degree the basis of an ideal with few standard monomials comes by a change of order.
-//! Where such an attempt has no answer the list itself is run.
+//! An ideal under weights is attempted as it stands. Where an attempt has no answer the list itself is run.
 #![tactic(auto)]
 
 mod attempt;

@@ -13,7 +13,7 @@ ghost use Rattle.f4_engine.specs.Runs.{IsFinished, IsWorkedByAll};
 use crate::runs::run;
 use basis_core::BasisState;
 use groebner_iface::{Groebner, Stop};
-use module_vectors::{KeptTrail, Ring, VectList};
+use module_vectors::{KeptTrail, NoMemory, Ring, VectList};
 use queue_updates::Update;
 use run_endings::RunStop;
 use std::alloc::Global;
@@ -21,7 +21,7 @@ use std::marker::Model;
 use std::mem::replace;
 use std::sync::Wait;
 use std::thread::Threads;
-use worker_gate::SharedGate;
+use worker_gate::{Gate, SharedGate};
 
 /// Buchberger's algorithm by running workers, each of which solves its jobs with helpers. The last run that stopped early is
 /// kept: by its budget of pairs, its state; by a degree above 65,535, a trail and its state, or the trail alone where the
@@ -222,6 +222,18 @@ impl F4Engine {
         (state, trail)
     }
 
+    // One with the same settings, which has not run.
+    fn another(&self) -> F4Engine {
+        F4Engine::new(
+            self.pairs(),
+            self.workers(),
+            self.helpers(),
+            self.update(),
+            self.thread(),
+            self.gate.shared(),
+        )
+    }
+
     // Counts a run.
     fn count_run(&mut self)
         ensures { self.new ≡ f4_with_run self.old }
@@ -337,5 +349,21 @@ impl Groebner for F4Engine {
         list: &VectList,
     ) -> Result<VectList, Stop> {
         self.run(rt, alloc, ring, rank, list)
+    }
+
+    fn attempted<R: Threads + Wait + Sync>(
+        &self,
+        rt: &R,
+        alloc: Global,
+        ring: &Ring,
+        rank: u128,
+        list: &VectList,
+    ) -> Result<Option<VectList>, NoMemory> {
+        let mut engine = self.another();
+        match engine.run(rt, alloc, ring, rank, list) {
+            Ok(basis) => Ok(Some(basis)),
+            Err(Stop::Memory) => Err(NoMemory),
+            Err(Stop::Pairs | Stop::Degree) => Ok(None),
+        }
     }
 }

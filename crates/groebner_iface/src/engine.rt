@@ -1,5 +1,5 @@
 // An engine for reduced Gröbner bases.
-ghost use Rattle.std.specs.Prelude.{◌≡◌, ◌≤◌, ℕ, List, Option, IfOk, IfErr, OnOk};
+ghost use Rattle.std.specs.Prelude.{◌≡◌, ◌≤◌, ℕ, List, Option, IfOk, IfErr, IfSome, OnOk};
 ghost use Rattle.std.specs.Thread.{IsSync};
 ghost use Rattle.formal_sums.specs.FormalSums.{Each};
 ghost use Rattle.term_lists.specs.Rings.{ring_comparison};
@@ -8,7 +8,7 @@ ghost use Rattle.risen_counts.specs.Counts.{next_count};
 ghost use Rattle.groebner_iface.specs.Runs.{IsReducedBasisOf, StopsRun, StoppedRun};
 
 use crate::Stop;
-use module_vectors::{Ring, VectList};
+use module_vectors::{NoMemory, Ring, VectList};
 use std::alloc::Global;
 use std::sync::Wait;
 use std::thread::Threads;
@@ -52,4 +52,19 @@ pub trait Groebner {
         ensures later { stops self.old ≤ stops self.new }
         ensures run { runs self.new ≡ next_count (runs self.old) }
         ensures settings { settings self.new ≡ settings self.old };
+
+    /// The reduced basis of the list as `reduced` gives it, where a run that nobody counts comes to it; none where that
+    /// stops early. The engine is as it was. No clause says when there is an answer.
+    fn attempted<R: Threads + Wait + Sync>(
+        &self,
+        rt: &R,
+        alloc: Global,
+        ring: &Ring,
+        rank: u128,
+        list: &VectList,
+    ) -> Result<Option<VectList>, NoMemory>
+        requires sync { IsSync R.row }
+        requires vectors { AreVectorsOver ring.now (ring_comparison ring.now) list.now }
+        requires positions { Each (HasPositions rank) list.now }
+        ensures { IfOk result (λ found. IfSome found (IsReducedBasisOf ring.now rank list.now)) };
 }

@@ -8,4 +8,6 @@ mod Multiplied
 mod FrontBases
 mod OneMoreVariable
 mod Stacked
+mod CoprimeLeads
+mod ColonItself
 mod Room

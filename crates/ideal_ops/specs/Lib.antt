@@ -6,3 +6,4 @@ pub mod Products
 pub mod FrontVariable
 -- between its steps
 pub mod FrontSteps
+pub mod CoprimeLeads

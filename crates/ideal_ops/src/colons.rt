@@ -12,6 +12,7 @@ ghost use Rattle.ideal_ops.specs.Answers.{IsBasisOfThose};
 ghost use Rattle.ideal_ops.specs.Components.{AreColonRuns};
 ghost use Rattle.ideal_ops.specs.Runs.{AreVectorsFor, IsRunFor};
 
+use crate::coprime_leads::colon_by_coprime;
 use crate::modulo::kernel_modulo;
 use crate::stacking::{block_list, stacked_list};
 use groebner_iface::{Groebner, OpStop};
@@ -85,10 +86,52 @@ fn rank_of_blocks(rank: u128, s: usize) -> u128
     rank * s as u128
 }
 
+// The same by vectors, at least one, by their stack with a mark.
+fn colon_by_marks<R: Threads + Wait + Sync, B: Groebner>(
+    rt: &R,
+    alloc: Global,
+    engine: &mut B,
+    ring: &Ring,
+    rank: u128,
+    list: &VectList,
+    by: &VectList,
+) -> Result<VectList, OpStop>
+    requires vectors { AreVectorsOver ring.now (ring_comparison ring.now) list.now }
+    requires positions { Each (HasPositions rank) list.now }
+    requires by { AreVectorsOver ring.now (ring_comparison ring.now) by.now }
+    requires by_positions { Each (HasPositions rank) by.now }
+    requires some { 0 < length by.now }
+    requires room { rank * length by.now < 9223372036854775808 }
+    ensures basis { let n = variables ring.now in let p = ring.now.modulus.value in IfOk result
+        (IsBasisOfThose ring.now 1 (λ v. IsOfRank p 1 v × Each (λ c. IsMember p (sums_of n list.now) (product v c)) (sums_of n by.now))) }
+    ensures same { OnOk result ((B.stops engine.new ≡ B.stops engine.old) × (B.stopped engine.new ≡ B.stopped engine.old)) }
+    ensures stop { IfErr result (CallStops (AreColonRuns ring.now rank list.now by.now) NoTrail
+        (B.stops engine.old) (B.stops engine.new) (B.stopped engine.old) (B.stopped engine.new)) }
+    ensures later { B.stops engine.old ≤ B.stops engine.new }
+    ensures runs { RoseAtMost (runs_in_order ring.now) (B.runs engine.old) (B.runs engine.new) }
+    ensures settings { B.settings engine.new ≡ B.settings engine.old }
+{
+    counted_times();
+    lawful_setting(ring);
+    let s = by.len();
+    let end = first_mark(rank);
+    let over = by_position(alloc, ring)?;
+    let heads = stacked_list(alloc, ring, end, by)?;
+    let members = block_list(alloc, &over, end, s, list)?;
+    let whole = rank_of_blocks(rank, s);
+    match kernel_modulo(rt, alloc, engine, ring, &over, whole, &heads, members) {
+        Ok(basis) => Ok(basis),
+        Err(stop) => Err(stop),
+    }
+}
+
 /// The reduced basis of the polynomials v with v c in the module of the list for each vector c of `by`, all of this rank:
 /// the syzygies of the vectors of `by` one below the other modulo the list in each block, by one run, position over term,
 /// on these vectors with one mark and the blocks without (UAG chapter 5, section 3). By no vectors, one run, on the
 /// polynomial 1.
+///
+/// An ideal that is the colon itself is found by its leads before that, where an attempt at its basis, which is no run that
+/// counts, has an answer.
 ///
 /// `Pairs` and `Degree` are those of one of the runs, which the engine counted and kept; `Memory` where there is none;
 /// `Trail` never.
@@ -119,15 +162,9 @@ pub fn colon<R: Threads + Wait + Sync, B: Groebner>(
     if by.len() == 0 {
         return all_polynomials(rt, alloc, engine, ring);
     }
-    lawful_setting(ring);
-    let s = by.len();
-    let end = first_mark(rank);
-    let over = by_position(alloc, ring)?;
-    let heads = stacked_list(alloc, ring, end, by)?;
-    let members = block_list(alloc, &over, end, s, list)?;
-    let whole = rank_of_blocks(rank, s);
-    match kernel_modulo(rt, alloc, engine, ring, &over, whole, &heads, members) {
-        Ok(basis) => Ok(basis),
-        Err(stop) => Err(stop),
+    match colon_by_coprime(rt, alloc, engine, ring, rank, list, by) {
+        Ok(Some(basis)) => Ok(basis),
+        Ok(None) => colon_by_marks(rt, alloc, engine, ring, rank, list, by),
+        Err(NoMemory) => Err(OpStop::Memory),
     }
 }

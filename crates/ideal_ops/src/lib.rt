@@ -4,13 +4,14 @@
 //! property are run again in the ring's own order (IVA chapter 3, section 1 and chapter 4, section 3). Quotient and colon
 //! are syzygies of one list modulo another: only the one gets marks, and what the basis has behind them is the answer, but
 //! for a second run where the ring's order is term over position and there are more marks than one (UAG chapter 5,
-//! section 3).
+//! section 3). Before a colon has such a run, the basis of the ideal itself is attempted where this may be the answer.
 #![tactic(auto)]
 
 mod adding;
 mod back;
 mod colons;
 mod comparing;
+mod coprime_leads;
 mod eliminating;
 mod front;
 mod intersecting;

@@ -13,7 +13,7 @@ ghost use Rattle.run_endings.specs.Stops.{IsStop, RunStops, shared_on, stopped_r
 use crate::runs::run;
 use basis_core::BasisState;
 use groebner_iface::{Groebner, Stop};
-use module_vectors::{KeptTrail, Ring, VectList};
+use module_vectors::{KeptTrail, NoMemory, Ring, VectList};
 use queue_updates::Update;
 use run_endings::RunStop;
 use std::alloc::Global;
@@ -224,5 +224,21 @@ impl Groebner for PlainEngine {
         list: &VectList,
     ) -> Result<VectList, Stop> {
         self.run(rt, alloc, ring, rank, list)
+    }
+
+    fn attempted<R: Threads + Wait + Sync>(
+        &self,
+        rt: &R,
+        alloc: Global,
+        ring: &Ring,
+        rank: u128,
+        list: &VectList,
+    ) -> Result<Option<VectList>, NoMemory> {
+        let mut engine = PlainEngine::new(self.pairs, self.update);
+        match engine.run(rt, alloc, ring, rank, list) {
+            Ok(basis) => Ok(Some(basis)),
+            Err(Stop::Memory) => Err(NoMemory),
+            Err(Stop::Pairs | Stop::Degree) => Ok(None),
+        }
     }
 }

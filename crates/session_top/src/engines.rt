@@ -30,11 +30,12 @@ impl Drop for Engines {
 }
 
 impl Attempts<F4Engine> for Engines {
-    // An attempt is told of by its basis alone, so it may queue as few pairs as there need be, whatever the request says.
+    // An attempt is told of by its basis alone, so it may queue as few pairs as there need be, and have one worker, which takes a degree
+    // at a time, whatever the request says.
     fn engine(&self) -> F4Engine {
         F4Engine::new(
             self.request.pairs,
-            self.request.workers,
+            1,
             self.request.helpers,
             Update::Gebauer,
             self.thread,

@@ -14,12 +14,14 @@
 //!     begin SETTING / LIST                the members of a run on the list, with cofactors, and the queued pairs
 //!     solve SETTING / LIST                the rows of the run's first job, by members, and the products INDEX:MONOMIAL
 //!     basis SETTING / PAIRS / LIST        the reduced basis, where it takes at most so many pairs
+//!     colon SETTING / LIST / LIST         the colon of the ideal of the second list by the first, and how many runs count
 //!     line SETTING / LINE                 what a line states of the vector that it divides, or the kind of its refusal
 //!
 //! SETTING, VECTOR, LIST and PRODUCT are texts of `check_texts`. A job that meets a product of too great a degree answers its
 //! trail. A line that begins with `#` is a comment.
 #![tactic(auto)]
 
+mod colons;
 mod divisions;
 mod members;
 mod pairs;
@@ -32,6 +34,7 @@ ghost use Rattle.formal_sums.specs.FormalSums.{Each};
 ghost use Rattle.term_lists.specs.Rings.{ring_comparison};
 ghost use Rattle.term_lists.specs.Vectors.{AreVectorsOver, HasPositions};
 
+use crate::colons::write_colon;
 use crate::divisions::{write_division, write_interreduction};
 use crate::members::write_tracked;
 use crate::pairs::write_pair;
@@ -42,10 +45,11 @@ use check_texts::{NoValue, Sheet, setting_of, vectors_of};
 use module_vectors::{Ring, VectList};
 use std::alloc::Global;
 use std::io;
+use std::sync::Wait;
 use std::thread::Threads;
 
 // Writes the answer to a job with this argument on a list.
-fn write_on_list<R: Threads + Sync>(
+fn write_on_list<R: Threads + Wait + Sync>(
     rt: &R,
     alloc: Global,
     sheet: &mut Sheet,
@@ -71,12 +75,13 @@ fn write_on_list<R: Threads + Sync>(
             Ok(())
         }
         "basis" => write_basis(rt, alloc, sheet, ring, rank, argument, list),
+        "colon" => write_colon(rt, alloc, sheet, ring, rank, argument, list),
         _ => write_division(alloc, sheet, work, ring, rank, argument, list),
     }
 }
 
 // Writes the answer to a job with this argument on the list of a text.
-fn write_on_text<R: Threads + Sync>(
+fn write_on_text<R: Threads + Wait + Sync>(
     rt: &R,
     alloc: Global,
     sheet: &mut Sheet,
@@ -91,7 +96,7 @@ fn write_on_text<R: Threads + Sync>(
 }
 
 // Writes the answer to a job.
-fn write_answer<R: Threads + Sync>(
+fn write_answer<R: Threads + Wait + Sync>(
     rt: &R,
     alloc: Global,
     sheet: &mut Sheet,
@@ -112,7 +117,7 @@ fn write_answer<R: Threads + Sync>(
 }
 
 // Writes a line and its answer.
-fn write_line<R: Threads + Sync>(rt: &R, alloc: Global, sheet: &mut Sheet, line: &str) {
+fn write_line<R: Threads + Wait + Sync>(rt: &R, alloc: Global, sheet: &mut Sheet, line: &str) {
     sheet.text(line);
     sheet.text("\n");
     if write_answer(rt, alloc, sheet, line).is_err() {
