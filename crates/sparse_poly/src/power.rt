@@ -64,8 +64,9 @@ pub(crate) fn raised<F: Frame>(
         Ok(half) => half,
         Err(stop) => return Err(stop),
     };
-    // Multiplying on makes at least (n - n / 2) |p| |half| products of terms, and squaring |half| |half|.
-    let factors = (n - n / 2).saturating_mul(p.terms().len() as u128);
+    // Squaring makes |half| |half| products of terms. Multiplying on makes |p| for each term of the n - n / 2 powers on the way, which
+    // are some three times as long as the half, and orders these: that costs as much as fifty products for each.
+    let factors = (n - n / 2).saturating_mul(3 * p.terms().len() as u128 + 160);
     if half.terms().len() as u128 <= factors {
         squared(alloc, frame, room, p, n, &half)
     } else {
