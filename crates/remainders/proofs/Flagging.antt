@@ -15,7 +15,7 @@ use Rattle.row_matrix.specs.Naming.{IsGrown}
 use Rattle.row_matrix.specs.Rows.{Entry, column_key}
 use Rattle.numbered_sums.proofs.ProductRows.{known, row_more, wider}
 use Rattle.numbered_sums.specs.declared.products.Product.{Product}
-use Rattle.remainders.specs.Leaving.{AreEntriesOf, AreFlags, IsLonger, IsProductOfList}
+use Rattle.remainders.specs.Leaving.{AreEntriesOf, AreFreeFlags, IsLonger, IsProductOfList}
 
 abbrev Terms : Type 0
 Terms = List (CodeKey × ℕ)
@@ -34,7 +34,7 @@ longer_grown old new entries g = record { added = g.added; is = g.grown }
 
 module _ (n : ℕ) (list : List Terms) where
   -- more keys
-  flags_over : (keys added : List CodeKey) (flags : List Bool) → AreFlags n list keys flags → AreFlags n list (keys ++ added) flags
+  flags_over : (keys added : List CodeKey) (flags : List Bool) → AreFreeFlags n list keys flags → AreFreeFlags n list (keys ++ added) flags
   flags_over keys added flags h = record {
     within = let w = h.within in omega (arith, w, length-append keys added);
     free = λ i t. go i t (cases_lt i (length flags));
@@ -48,8 +48,8 @@ module _ (n : ℕ) (list : List Terms) where
 
   -- one flag more
   pub flags_push :
-      (keys : List CodeKey) (flags : List Bool) (b : Bool) → AreFlags n list keys flags → length flags < length keys
-      → (b ≡ true → IsUncovered (sums_of n list) (column_key n keys (length flags))) → AreFlags n list keys (flags ++ b ∷ [])
+      (keys : List CodeKey) (flags : List Bool) (b : Bool) → AreFreeFlags n list keys flags → length flags < length keys
+      → (b ≡ true → IsUncovered (sums_of n list) (column_key n keys (length flags))) → AreFreeFlags n list keys (flags ++ b ∷ [])
   flags_push keys flags b h lt u = record {
     within = omega (arith, lt, length-append flags (b ∷ []));
     free = λ i t. go i t (cases_lt i (length flags)) (cases_eq i (length flags));
@@ -66,10 +66,10 @@ module _ (n : ℕ) (list : List Terms) where
 
   -- more keys, and the next one has a product
   pub flags_none :
-      (old new : List CodeKey) (flags : List Bool) → AreFlags n list old flags → length flags < length old → IsLonger old new
-      → AreFlags n list new (flags ++ false ∷ [])
+      (old new : List CodeKey) (flags : List Bool) → AreFreeFlags n list old flags → length flags < length old → IsLonger old new
+      → AreFreeFlags n list new (flags ++ false ∷ [])
   flags_none old new flags h lt g =
-      subst (λ ks. AreFlags n list ks (flags ++ false ∷ [])) (sym g.is)
+      subst (λ ks. AreFreeFlags n list ks (flags ++ false ∷ [])) (sym g.is)
       (flags_over old g.added (flags ++ false ∷ []) (flags_push old flags false h lt (λ e. absurd (true≢false (sym e)))))
 
 module _ (ring : Ring) (list : List Terms) (old new : List CodeKey) (g : IsLonger old new) where

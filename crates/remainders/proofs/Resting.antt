@@ -22,8 +22,8 @@ use Rattle.numbered_sums.proofs.NumberedSums.{idle_sums}
 use Rattle.numbered_sums.proofs.Taking.{sum_taken}
 use Rattle.numbered_sums.specs.KeySums.{AddsProduct, AreSmall, AreTouched, AreZeroSums, numbered_sum}
 use Rattle.numbered_sums.specs.declared.products.Product.{Product}
-use Rattle.remainders.specs.Leaving.{AreEntriesOf, AreLeft, AreTaken, IsProductOfList}
-use Rattle.remainders.specs.Remainders.{IsRemainder}
+use Rattle.remainders.specs.Leaving.{AreEntriesOf, AreLeft, AreTakenAway, IsProductOfList}
+use Rattle.remainders.specs.Remainders.{IsRemainderOf}
 
 abbrev Terms : Type 0
 Terms = List (CodeKey × ℕ)
@@ -41,7 +41,7 @@ module _ (ring : Ring) (list : List Terms) (keys : List CodeKey) (v : Terms) whe
   -- nothing is taken yet
   pub taken_start :
       (row : List Entry) (old sums touched : List ℕ) → length old ≡ length keys → AreZeroSums old → AreEntriesOf ring keys v row
-      → AddsProduct ring.modulus.value 1 row old sums → AreSmall sums → AreTouched touched sums → AreTaken ring list keys v sums touched
+      → AddsProduct ring.modulus.value 1 row old sums → AreSmall sums → AreTouched touched sums → AreTakenAway ring list keys v sums touched
   taken_start row old sums touched is idle h adds small marked =
       let K = column_key (variables ring) keys in
       let R = row_sum K row in
@@ -75,9 +75,9 @@ module _ (ring : Ring) (list : List Terms) (keys : List CodeKey) (v : Terms) whe
 
   -- a product is taken away
   pub taken_more :
-      (f : ℕ) (old new before touched : List ℕ) (s : Product) → AreTaken ring list keys v old before → IsProductOfList ring list keys s
+      (f : ℕ) (old new before touched : List ℕ) (s : Product) → AreTakenAway ring list keys v old before → IsProductOfList ring list keys s
       → f < ring.modulus.value → AddsProduct ring.modulus.value f s.entries.items old new → AreSmall new → AreTouched touched new
-      → AreTaken ring list keys v new touched
+      → AreTakenAway ring list keys v new touched
   taken_more f old new before touched s t h lt adds small marked =
       let n = variables ring in
       let p = ring.modulus.value in
@@ -97,9 +97,9 @@ module _ (ring : Ring) (list : List Terms) (keys : List CodeKey) (v : Terms) whe
 
   -- what is left is the remainder
   pub remainder_left :
-      (sums touched : List ℕ) (left rest : Terms) → AreTaken ring list keys v sums touched → AreLeft ring list keys sums left
+      (sums touched : List ℕ) (left rest : Terms) → AreTakenAway ring list keys v sums touched → AreLeft ring list keys sums left
       → IsDomain ring.modulus.value → IsKeyOrder 0 (ring_comparison ring (variables ring)) → IsVectorOver ring (ring_comparison ring) rest
-      → StandsFor ring rest (sum_of (variables ring) left) → IsRemainder ring list v rest
+      → StandsFor ring rest (sum_of (variables ring) left) → IsRemainderOf ring list v rest
   remainder_left sums touched left rest t l domain order vector stands = record {
     cofactors = t.cofactors;
     ranks = t.ranks;

@@ -28,12 +28,12 @@ pub record IsProductOfList (ring : Ring) (list : List (List (CodeKey × ℕ))) (
   pub row : IsProductEntries ring list keys s.index s.monomial s.entries.items
 
 -- no lead of the list divides a key whose number has a flag
-pub record AreFlags (n : ℕ) (list : List (List (CodeKey × ℕ))) (keys : List CodeKey) (flags : List Bool) : Type 0 where
+pub record AreFreeFlags (n : ℕ) (list : List (List (CodeKey × ℕ))) (keys : List CodeKey) (flags : List Bool) : Type 0 where
   pub within : length flags ≤ length keys
   pub free : (i : ℕ) → get_or flags i false ≡ true → IsUncovered (sums_of n list) (column_key n keys i)
 
 -- a combination of the list was taken away of v, and the sums are left, with the numbers that were touched
-pub record AreTaken (ring : Ring) (list : List (List (CodeKey × ℕ))) (keys : List CodeKey) (v : List (CodeKey × ℕ)) (sums touched : List ℕ) : Type 0 where
+pub record AreTakenAway (ring : Ring) (list : List (List (CodeKey × ℕ))) (keys : List CodeKey) (v : List (CodeKey × ℕ)) (sums touched : List ℕ) : Type 0 where
   pub cofactors : FormalSum (variables ring)
   pub ranks : HasRank (length list) cofactors
   pub count : length sums ≡ length keys

@@ -1,6 +1,6 @@
 // The hashes of the keys of a list's vectors.
 ghost use Rattle.std.specs.Prelude.{◌<◌, [], IfOk, OnOk, get_or, length};
-ghost use Rattle.remainders.specs.Hashed.{AreHashed, IsHashedAt};
+ghost use Rattle.remainders.specs.Hashed.{HaveHashes, HasHashesAt};
 
 use module_vectors::{NoMemory, Vect};
 use row_matrix::TermHashes;
@@ -8,7 +8,7 @@ use std::alloc::Global;
 
 /// For each vector no hashes yet.
 pub(crate) fn no_hashes(alloc: Global, list: &[Vect]) -> Result<Vec<TermHashes>, NoMemory>
-    ensures { IfOk result (λ hashes. AreHashed list.now hashes.items) }
+    ensures { IfOk result (λ hashes. HaveHashes list.now hashes.items) }
 {
     let mut hashes = Vec::with_capacity(alloc, list.len())?;
     for _ in 0..list.len() {
@@ -25,9 +25,9 @@ pub(crate) fn keep_hashes(
     index: usize,
 ) -> Result<(), NoMemory>
     requires within { index < length list.now }
-    requires hashed { AreHashed list.now hashes.old.items }
-    ensures hashed { OnOk result (AreHashed list.now hashes.new.items) }
-    ensures made { OnOk result (IsHashedAt hashes.new.items index (get_or list.now index [])) }
+    requires hashed { HaveHashes list.now hashes.old.items }
+    ensures hashed { OnOk result (HaveHashes list.now hashes.new.items) }
+    ensures made { OnOk result (HasHashesAt hashes.new.items index (get_or list.now index [])) }
 {
     let terms = list[index].terms();
     let made = &hashes[index];

@@ -8,8 +8,8 @@ ghost use Rattle.row_matrix.specs.Naming.{IsGrown};
 ghost use Rattle.row_matrix.specs.Rows.{AreKeys};
 ghost use Rattle.induced_leads.specs.Spans.{IsIndexOf};
 ghost use Rattle.numbered_sums.specs.ProductEntries.{AreReduced, IsProductEntries};
-ghost use Rattle.remainders.specs.Hashed.{AreHashed};
-ghost use Rattle.remainders.specs.Leaving.{AreFlags, IsLonger, IsProductOfList};
+ghost use Rattle.remainders.specs.Hashed.{HaveHashes};
+ghost use Rattle.remainders.specs.Leaving.{AreFreeFlags, IsLonger, IsProductOfList};
 
 use crate::hashes::{keep_hashes, no_hashes};
 use induced_leads::{LeadIndex, last_divisor};
@@ -56,9 +56,9 @@ fn hashed_product(
     requires monomial { IsMonomialOver ring.now monomial.now }
     requires weighed { AreWeighed (variables ring.now) ring.now.weights list.now }
     requires reduced { AreReduced ring.now.modulus.value list.now }
-    requires hashed { AreHashed list.now hashes.old.items }
+    requires hashed { HaveHashes list.now hashes.old.items }
     requires keys { AreKeys (variables ring.now) ring.now.weights numbers.old }
-    ensures hashed { OnOk result (AreHashed list.now hashes.new.items) }
+    ensures hashed { OnOk result (HaveHashes list.now hashes.new.items) }
     ensures row { IfOk result (λ row. IsProductEntries ring.now list.now numbers.new index monomial.now row.items) }
     ensures keys { OnOk result (AreKeys (variables ring.now) ring.now.weights numbers.new) }
     ensures grown { IfOk result (λ row. IsGrown numbers.old numbers.new row.items) }
@@ -98,14 +98,14 @@ fn divide_key(
     requires weighed { AreWeighed (variables ring.now) ring.now.weights list.now }
     requires reduced { AreReduced ring.now.modulus.value list.now }
     requires index { IsIndexOf list.now index.now }
-    requires hashed { AreHashed list.now hashes.old.items }
+    requires hashed { HaveHashes list.now hashes.old.items }
     requires keys { AreKeys (variables ring.now) ring.now.weights numbers.old }
-    requires flags { AreFlags (variables ring.now) list.now numbers.old free.old.items }
+    requires flags { AreFreeFlags (variables ring.now) list.now numbers.old free.old.items }
     requires products { Each (IsProductOfList ring.now list.now numbers.old) products.old.items }
-    ensures hashed { OnOk result (AreHashed list.now hashes.new.items) }
+    ensures hashed { OnOk result (HaveHashes list.now hashes.new.items) }
     ensures keys { OnOk result (AreKeys (variables ring.now) ring.now.weights numbers.new) }
     ensures longer { OnOk result (IsLonger numbers.old numbers.new) }
-    ensures flags { OnOk result (AreFlags (variables ring.now) list.now numbers.new free.new.items) }
+    ensures flags { OnOk result (AreFreeFlags (variables ring.now) list.now numbers.new free.new.items) }
     ensures products { OnOk result (Each (IsProductOfList ring.now list.now numbers.new) products.new.items) }
 {
     let number = free.len();
@@ -153,7 +153,7 @@ pub(crate) fn all_products(
     requires keys { AreKeys (variables ring.now) ring.now.weights numbers.old }
     ensures keys { OnOk result (AreKeys (variables ring.now) ring.now.weights numbers.new) }
     ensures longer { OnOk result (IsLonger numbers.old numbers.new) }
-    ensures flags { IfOk result (λ known. IfSome known (λ k. AreFlags (variables ring.now) list.now numbers.new k.free.items)) }
+    ensures flags { IfOk result (λ known. IfSome known (λ k. AreFreeFlags (variables ring.now) list.now numbers.new k.free.items)) }
     ensures products { IfOk result (λ known. IfSome known (λ k. Each (IsProductOfList ring.now list.now numbers.new) k.products.items)) }
 {
     let mut hashes = no_hashes(alloc, list)?;

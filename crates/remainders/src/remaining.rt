@@ -5,8 +5,8 @@ ghost use Rattle.term_lists.specs.Rings.{ring_comparison, variables};
 ghost use Rattle.term_lists.specs.Vectors.{AreVectorsOver, IsVectorOver};
 ghost use Rattle.vector_division.specs.Divisions.{DivisionStops};
 ghost use Rattle.row_matrix.specs.Rows.{AreKeys};
-ghost use Rattle.remainders.specs.Leaving.{AreEntriesOf, AreFlags, IsProductOfList};
-ghost use Rattle.remainders.specs.Remainders.{IsRemainder};
+ghost use Rattle.remainders.specs.Leaving.{AreEntriesOf, AreFreeFlags, IsProductOfList};
+ghost use Rattle.remainders.specs.Remainders.{IsRemainderOf};
 
 use crate::products::{Known, all_products};
 use crate::substituting::{left_terms, put_start, take_all};
@@ -47,10 +47,10 @@ fn rest_by(
 ) -> Result<Option<Vect>, NoMemory>
     requires keys { AreKeys (variables ring.now) ring.now.weights numbers.now }
     requires start { AreEntriesOf ring.now numbers.now v.now start.now }
-    requires flags { AreFlags (variables ring.now) list.now numbers.now known.now.free.items }
+    requires flags { AreFreeFlags (variables ring.now) list.now numbers.now known.now.free.items }
     requires products { Each (IsProductOfList ring.now list.now numbers.now) known.now.products.items }
     ensures rest { IfOk result (λ rest. IfSome rest (IsVectorOver ring.now (ring_comparison ring.now))) }
-    ensures remainder { IfOk result (λ rest. IfSome rest (IsRemainder ring.now list.now v.now)) }
+    ensures remainder { IfOk result (λ rest. IfSome rest (IsRemainderOf ring.now list.now v.now)) }
 {
     lawful_setting(ring);
     ring.modulus.domain();
@@ -83,7 +83,7 @@ fn numbered_rest(
     requires vector { IsVectorOver ring.now (ring_comparison ring.now) v.now }
     requires list { AreVectorsOver ring.now (ring_comparison ring.now) list.now }
     ensures rest { IfOk result (λ rest. IfSome rest (IsVectorOver ring.now (ring_comparison ring.now))) }
-    ensures remainder { IfOk result (λ rest. IfSome rest (IsRemainder ring.now list.now v.now)) }
+    ensures remainder { IfOk result (λ rest. IfSome rest (IsRemainderOf ring.now list.now v.now)) }
 {
     let mut numbers = KeyTable::new(alloc)?;
     let start = numbered_terms(alloc, ring, v, &mut numbers)?;
@@ -102,7 +102,7 @@ fn by_products(alloc: Global, ring: &Ring, v: &Vect, list: &VectList) -> Option<
     requires vector { IsVectorOver ring.now (ring_comparison ring.now) v.now }
     requires list { AreVectorsOver ring.now (ring_comparison ring.now) list.now }
     ensures rest { IfSome result (IsVectorOver ring.now (ring_comparison ring.now)) }
-    ensures remainder { IfSome result (IsRemainder ring.now list.now v.now) }
+    ensures remainder { IfSome result (IsRemainderOf ring.now list.now v.now) }
 {
     match numbered_rest(alloc, ring, v, list.as_slice()) {
         Ok(rest) => rest,
@@ -122,7 +122,7 @@ fn by_terms(alloc: Global, ring: &Ring, v: &Vect, list: &VectList) -> Result<Vec
     requires vector { IsVectorOver ring.now (ring_comparison ring.now) v.now }
     requires list { AreVectorsOver ring.now (ring_comparison ring.now) list.now }
     ensures rest { IfOk result (IsVectorOver ring.now (ring_comparison ring.now)) }
-    ensures remainder { IfOk result (IsRemainder ring.now list.now v.now) }
+    ensures remainder { IfOk result (IsRemainderOf ring.now list.now v.now) }
     ensures stop { IfErr result (DivisionStops ring.now v.now list.now) }
 {
     let divisors = divisors_from_last(alloc, list)?;
@@ -140,7 +140,7 @@ pub fn remainder(alloc: Global, ring: &Ring, v: &Vect, list: &VectList) -> Resul
     requires vector { IsVectorOver ring.now (ring_comparison ring.now) v.now }
     requires list { AreVectorsOver ring.now (ring_comparison ring.now) list.now }
     ensures rest { IfOk result (IsVectorOver ring.now (ring_comparison ring.now)) }
-    ensures remainder { IfOk result (IsRemainder ring.now list.now v.now) }
+    ensures remainder { IfOk result (IsRemainderOf ring.now list.now v.now) }
     ensures stop { IfErr result (DivisionStops ring.now v.now list.now) }
 {
     match by_products(alloc, ring, v, list) {

@@ -4,7 +4,7 @@ ghost use Rattle.formal_sums.specs.FormalSums.{Each};
 ghost use Rattle.term_lists.specs.Rings.{variables};
 ghost use Rattle.row_matrix.specs.Rows.{AreKeys};
 ghost use Rattle.numbered_sums.specs.KeySums.{AreTouched, AreZeroSums};
-ghost use Rattle.remainders.specs.Leaving.{AreEntriesOf, AreFlags, AreLeft, AreTaken, IsProductOfList, IsTermKept};
+ghost use Rattle.remainders.specs.Leaving.{AreEntriesOf, AreFreeFlags, AreLeft, AreTakenAway, IsProductOfList, IsTermKept};
 
 use module_vectors::{Key, NoMemory, Ring, Vect};
 use numbered_sums::{
@@ -47,8 +47,8 @@ fn take_product(
     work: &mut Work,
 ) -> Result<(), NoMemory>
     requires product { IsProductOfList ring.now list.now numbers.now product.now }
-    requires taken { AreTaken ring.now list.now numbers.now v.now work.old.sums.items work.old.touched.items }
-    ensures { OnOk result (AreTaken ring.now list.now numbers.now v.now work.new.sums.items work.new.touched.items) }
+    requires taken { AreTakenAway ring.now list.now numbers.now v.now work.old.sums.items work.old.touched.items }
+    ensures { OnOk result (AreTakenAway ring.now list.now numbers.now v.now work.new.sums.items work.new.touched.items) }
 {
     let _list = list;
     let _numbers = numbers;
@@ -88,8 +88,8 @@ pub(crate) fn take_all(
     work: &mut Work,
 ) -> Result<(), NoMemory>
     requires products { Each (IsProductOfList ring.now list.now numbers.now) products.now }
-    requires taken { AreTaken ring.now list.now numbers.now v.now work.old.sums.items work.old.touched.items }
-    ensures { OnOk result (AreTaken ring.now list.now numbers.now v.now work.new.sums.items work.new.touched.items) }
+    requires taken { AreTakenAway ring.now list.now numbers.now v.now work.old.sums.items work.old.touched.items }
+    ensures { OnOk result (AreTakenAway ring.now list.now numbers.now v.now work.new.sums.items work.new.touched.items) }
 {
     let mut pass = pass_over(first_group(&order.places, work.touched.as_slice()));
     for _ in 0..products.len() {
@@ -118,7 +118,7 @@ pub(crate) fn put_start(
     requires start { AreEntriesOf ring.now numbers.now v.now start.now }
     requires count { length work.old.sums.items ≡ length numbers.now }
     requires idle { AreZeroSums work.old.sums.items }
-    ensures { OnOk result (AreTaken ring.now list.now numbers.now v.now work.new.sums.items work.new.touched.items) }
+    ensures { OnOk result (AreTakenAway ring.now list.now numbers.now v.now work.new.sums.items work.new.touched.items) }
 {
     let _list = list;
     let _numbers = numbers;
@@ -157,7 +157,7 @@ fn keep_left(
     requires number { number < length numbers.now }
     requires residue { residue < ring.now.modulus.value }
     requires keys { AreKeys (variables ring.now) ring.now.weights numbers.now }
-    requires flags { AreFlags (variables ring.now) list.now numbers.now free.now }
+    requires flags { AreFreeFlags (variables ring.now) list.now numbers.now free.now }
     ensures { IfOk result (λ is_free. IsTrue is_free → IsTermKept ring.now list.now numbers.now number residue terms.old.items terms.new.items) }
 {
     let _ring = ring;
@@ -184,7 +184,7 @@ pub(crate) fn left_terms(
     sums: &mut Vec<u64>,
 ) -> Result<Option<Vec<(Key, u32)>>, NoMemory>
     requires keys { AreKeys (variables ring.now) ring.now.weights numbers.now }
-    requires flags { AreFlags (variables ring.now) list.now numbers.now free.now }
+    requires flags { AreFreeFlags (variables ring.now) list.now numbers.now free.now }
     requires count { length sums.old.items ≡ length numbers.now }
     requires touched { AreTouched touched.now sums.old.items }
     ensures { IfOk result (λ left. IfSome left (λ terms. AreLeft ring.now list.now numbers.now sums.old.items terms.items)) }

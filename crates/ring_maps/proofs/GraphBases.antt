@@ -49,7 +49,7 @@ use Rattle.ideal_ops.specs.Answers.{IsBasisOfThose}
 use Rattle.ideal_ops.specs.Products.{WorkStops}
 use Rattle.ideal_ops.specs.Runs.{AreVectorsFor}
 use Rattle.ring_maps.specs.Graphs.{IsExpressionTrail}
-use Rattle.remainders.specs.Remainders.{IsRemainder as IsRemainderBy}
+use Rattle.remainders.specs.Remainders.{IsRemainderOf}
 use Rattle.ring_maps.specs.GraphSteps.{IsGraphBasis}
 use Rattle.ring_maps.specs.Maps.{HasImage, IsExpression, IsInPreimage, grevlex_setting}
 use Rattle.ring_maps.proofs.Doubled.{doubled_count, doubled_modulus, doubled_setting}
@@ -142,7 +142,7 @@ module _ (ring graph : Ring) (images list basis : List Terms) (h : IsGraphBasis 
 module _ (ring graph : Ring) (images basis : List Terms) (h : IsGraphBasis ring images [] graph basis)
     (lawful : (rank : ℕ) → IsLawful (setting ring (variables ring) (ring_comparison ring (variables ring)) rank)) (f : Each (HasPositions 1) images)
     (g u rest : Terms) (g_low : HasPositions 1 g) (hu : StandsFor graph u (in_first (variables graph) (sum_of (variables ring) g)))
-    (hd : IsRemainderBy graph basis u rest) (hr : IsVectorOver graph (ring_comparison graph) rest) where
+    (hd : IsRemainderOf graph basis u rest) (hr : IsVectorOver graph (ring_comparison graph) rest) where
   abbrev S' : Setting (variables ring)
   S' = setting ring (variables ring) (ring_comparison ring (variables ring)) 1
 

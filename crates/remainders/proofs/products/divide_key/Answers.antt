@@ -7,7 +7,7 @@ use Rattle.term_lists.specs.Vectors.{key_of}
 use Rattle.induced_leads.specs.Spans.{IsFoundLast}
 use Rattle.numbered_sums.specs.declared.products.Product.{Product}
 use Rattle.remainders.proofs.Flagging.{flags_none, longer_grown, products_more}
-use Rattle.remainders.specs.Leaving.{AreFlags, IsProductOfList}
+use Rattle.remainders.specs.Leaving.{AreFreeFlags, IsProductOfList}
 use Rattle.remainders.proofs.products.divide_key.Goals as goal
 
 pub returns-in_ok-keep_flag-in-Some-clause-flags :
@@ -16,7 +16,7 @@ returns-in_ok-keep_flag-in-Some-clause-flags c =
     let n = variables c.args.ring.now in
     let old = c.args.numbers.now in
     let new = c.hashed_product.new.numbers in
-    subst (AreFlags n c.args.list.now new) (sym c.in_ok-keep_flag-in-Some.ensures)
+    subst (AreFreeFlags n c.args.list.now new) (sym c.in_ok-keep_flag-in-Some.ensures)
     (flags_none n c.args.list.now old new c.args.free.now.items c.requires.flags c.requires.next
     (longer_grown old new c.in_ok-entries-in-Some.entries.items c.in_ok-entries-in-Some.ensures.grown))
 

@@ -2,7 +2,7 @@ use Rattle.std.proofs.Common.{ap, arith, length, subst, subst₂, sym, ◌≡◌
 use Rattle.numbered_sums.proofs.Taking.{written_back}
 use Rattle.numbered_sums.specs.KeySums.{AddsProduct}
 use Rattle.remainders.proofs.Resting.{taken_more}
-use Rattle.remainders.specs.Leaving.{AreTaken}
+use Rattle.remainders.specs.Leaving.{AreTakenAway}
 use Rattle.remainders.proofs.substituting.take_product.Goals as goal
 
 pub returns : goal.returns
@@ -19,5 +19,5 @@ returns c =
     c.requires.taken c.requires.product c.factor_for.ensures adds c.in_ok-add_multiple.ensures.small c.in_ok-add_multiple.ensures.touched in
     let count : length new ≡ length old.sums.items = adds.count in
     let whole : old.sums.len ≡ length new = omega (arith, count, c.as_mut_slice.ensures.len, ap length c.as_mut_slice.ensures.value) in
-    subst (λ ns. AreTaken ring c.args.list.now c.args.numbers.now c.args.v.now ns touched)
+    subst (λ ns. AreTakenAway ring c.args.list.now c.args.numbers.now c.args.v.now ns touched)
     (sym (written_back old.sums.len new old.sums.items whole)) more
