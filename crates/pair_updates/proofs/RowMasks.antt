@@ -1,13 +1,13 @@
 -- The mask of the places at which one row exceeds another, and rows of divisors
 use Rattle.std.proofs.Common.{Bool, List, [], ap, ap₂, arith, cond, false, get_or, inl, inr, length, lt_of_lt_of_le, ltb, max, min, mod-eq_of_lt, mul-lt-mul_of_pos_right, pow_mono, refl, subst, suc, sym, true, zero, ℕ, ◌%◌, ◌*◌, ◌+◌, ◌-◌, ◌^◌, ◌++◌, ◌<◌, ◌∙◌, ◌∷◌, ◌≡◌, ◌≤◌, ◌⊎◌}
-use Rattle.std.proofs.lemmas.Bool.{cases_lt, lt-ltb, ltb-true}
+use Rattle.std.proofs.lemmas.Bool.{cases_lt, lt-ltb, ltb-true, ltb_from_iff}
 use Rattle.std.proofs.lemmas.List.{get_or_append_left, length-append, length-replicate}
 use Rattle.std.proofs.lemmas.Nat.{pow-add, pow_pos}
 use Rattle.std.proofs.lemmas.Nat.Bits.{bit_at_and, bit_at_cat_high, bit_at_cat_low, bit_at_or, bit_at-zero, same_from_bits}
-use Rattle.std.proofs.lemmas.Simd.{bit_mask_l, length-zip2, mask_l-lt}
+use Rattle.std.proofs.lemmas.Simd.{Each1-zip2, Each2-all, bit_mask_l, length-zip2, mask_l-lt}
 use Rattle.std.specs.Int.{bit_at}
 use Rattle.std.specs.Prelude.{bit_and, bit_or, replicate}
-use Rattle.std.specs.Simd.Lanes.{mask_l, zip2}
+use Rattle.std.specs.Simd.Lanes.{Each1, mask_l, zip2}
 use Rattle.monomials.specs.Exponents.{Divides, Exponents, cons, exponents_of, head, lcm, nil, tail}
 use Rattle.pair_updates.specs.Rows.{exceeding, exceeds_by, row}
 
@@ -84,13 +84,61 @@ joined_four ps qs rs us a b c d la lb lc ld ea eb ec ed =
     second : bit_or (mask_l (ps ++ qs)) (c * 2 ^ 32 % 2 ^ 64) ≡ mask_l ((ps ++ qs) ++ rs)
     second = ap (λ z. bit_or (mask_l (ps ++ qs)) (z * 2 ^ 32 % 2 ^ 64)) ec ∙ masks_joined (ps ++ qs) rs 32 l01 (omega (arith, lc))
 
+-- excesses that are told up to 4
+abbrev told : List ℕ → List ℕ → List ℕ
+told xs ys = zip2 (λ x y. min (x - y) 4) xs ys
+
+pub told_length : (xs ys : List ℕ) → length xs ≡ 16 → length ys ≡ 16 → (es : List ℕ) → es ≡ told xs ys → length es ≡ 16
+told_length xs ys hx hy es is =
+    let a = ap length is in
+    let b = length-zip2 (λ (x y : ℕ). min (x - y) 4) xs ys in
+    omega (arith, a, b, hx, hy)
+
+pub told_small : (xs ys es : List ℕ) → es ≡ told xs ys → Each1 (λ e. e < 128) es
+told_small xs ys es is =
+    subst (λ (zs : List ℕ). Each1 (λ e. e < 128) zs) (sym is)
+    (Each1-zip2 (λ (x y : ℕ). min (x - y) 4) (λ (e : ℕ). e < 128) xs ys (Each2-all (λ (x y : ℕ). min (x - y) 4 < 128) (λ x y. omega arith) xs ys))
+
+-- one is above the same of 0, 1, 2 and 3 as the excess itself
+told_enough : (t e : ℕ) → t ≤ 3 → ltb t (min e 4) ≡ ltb t e
+told_enough t e few = ltb_from_iff ((λ h. omega (arith, ltb-true t (min e 4) h)), (λ l. lt-ltb t (min e 4) (omega (arith, few, l))))
+
+told_flags : (k t : ℕ) (xs ys : List ℕ) → t ≤ 3 → zip2 (λ u e. ltb u e) (replicate k t) (told xs ys) ≡ exceeds_by k t xs ys
+told_flags zero t xs ys few = refl
+told_flags (suc k) t [] ys few = refl
+told_flags (suc k) t (x ∷ xs) [] few = refl
+told_flags (suc k) t (x ∷ xs) (y ∷ ys) few = ap₂ (λ (b : Bool) (bs : List Bool). b ∷ bs) (told_enough t (x - y) few) (told_flags k t xs ys few)
+
+-- which of sixteen numbers t is below
+abbrev flags : ℕ → List ℕ → List Bool
+flags t es = zip2 (λ u e. ltb u e) (replicate 16 t) es
+
 pub mask_of_four :
-    (xs ys : List ℕ) → length xs ≡ 16 → length ys ≡ 16 → (a b c d : ℕ)
-    → a ≡ mask_l (exceeds_by 16 0 xs ys) → b ≡ mask_l (exceeds_by 16 1 xs ys) → c ≡ mask_l (exceeds_by 16 2 xs ys) → d ≡ mask_l (exceeds_by 16 3 xs ys)
+    (xs ys : List ℕ) → length xs ≡ 16 → length ys ≡ 16 → (es : List ℕ) → es ≡ told xs ys → (a b c d : ℕ)
+    → a ≡ mask_l (flags 0 es) → b ≡ mask_l (flags 1 es) → c ≡ mask_l (flags 2 es) → d ≡ mask_l (flags 3 es)
     → bit_or (bit_or (bit_or a (b * 2 ^ 16 % 2 ^ 64)) (c * 2 ^ 32 % 2 ^ 64)) (d * 2 ^ 48 % 2 ^ 64) ≡ mask_l (exceeding xs ys)
-mask_of_four xs ys hx hy a b c d ea eb ec ed =
+mask_of_four xs ys hx hy es is a b c d ea eb ec ed =
     joined_four (exceeds_by 16 0 xs ys) (exceeds_by 16 1 xs ys) (exceeds_by 16 2 xs ys) (exceeds_by 16 3 xs ys) a b c d
-    (long_flags 16 0 xs ys hx hy) (long_flags 16 1 xs ys hx hy) (long_flags 16 2 xs ys hx hy) (long_flags 16 3 xs ys hx hy) ea eb ec ed
+    (long_flags 16 0 xs ys hx hy) (long_flags 16 1 xs ys hx hy) (long_flags 16 2 xs ys hx hy) (long_flags 16 3 xs ys hx hy)
+    (ea ∙ same 0 (omega arith)) (eb ∙ same 1 (omega arith)) (ec ∙ same 2 (omega arith)) (ed ∙ same 3 (omega arith))
+  where
+    same : (t : ℕ) → t ≤ 3 → mask_l (flags t es) ≡ mask_l (exceeds_by 16 t xs ys)
+    same t few = ap (λ (z : List ℕ). mask_l (flags t z)) is ∙ ap mask_l (told_flags 16 t xs ys few)
+
+-- bytes raised by 127 - t, whose sums do not wrap, are above 127 where they are above t
+pub raised_flags :
+    (t k : ℕ) (es : List ℕ) → t < 128 → Each1 (λ e. e < 128) es
+    → zip2 (λ x y. ltb x y) (replicate k 127) (zip2 (λ x y. (x + y) % 2 ^ 8) es (replicate k (127 - t))) ≡ zip2 (λ u e. ltb u e) (replicate k t) es
+raised_flags t zero [] few small = refl
+raised_flags t zero (e ∷ es) few small = refl
+raised_flags t (suc k) [] few small = refl
+raised_flags t (suc k) (e ∷ es) few small = ap₂ (λ (b : Bool) (bs : List Bool). b ∷ bs) one (raised_flags t k es few small.1)
+  where
+    one : ltb 127 ((e + (127 - t)) % 2 ^ 8) ≡ ltb t e
+    one =
+        let fits : e + (127 - t) < 2 ^ 8 = omega (arith, small.0) in
+        ap (ltb 127) (mod-eq_of_lt fits)
+        ∙ ltb_from_iff ((λ h. omega (arith, few, ltb-true 127 (e + (127 - t)) h)), (λ l. lt-ltb 127 (e + (127 - t)) (omega (arith, few, l))))
 
 -- ---- flags of which each is one of others
 abbrev pub Implied : List Bool → List Bool → Type 0

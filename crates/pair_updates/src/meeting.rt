@@ -1,6 +1,9 @@
 // The pairs of a new member, by what is asked of two of them.
 ghost use Rattle.std.specs.Prelude.{◌≡◌, ◌<◌, IfOk, length};
+ghost use Rattle.bases.specs.Leads.{leads as leads_of};
 ghost use Rattle.pair_updates.specs.Dropping.{AreNewPairs, IsNewPair};
+ghost use Rattle.pair_updates.specs.Leads.{sums_shown};
+ghost use Rattle.pair_updates.specs.Rows.{lead_row};
 
 use crate::leads::Leads;
 use crate::rows::exceeding_places;
@@ -16,19 +19,22 @@ pub(crate) struct NewPair {
     pub above: u64,
 }
 
-// The pair of i and the new member h: nothing where the leads stand at two positions.
-fn new_pair(leads: &Leads, i: usize, h: usize) -> Option<NewPair>
+// The pair of i and the new member h, whose lead stands at this position and has these first exponents: nothing where that of i stands
+// at another.
+fn new_pair(leads: &Leads, i: usize, h: usize, position: u64, row: &[u16; 16]) -> Option<NewPair>
     requires order { i < h }
     requires within { h < length leads.now.keys }
+    requires position { position ≡ (leads_of (sums_shown leads.now) h).0 }
+    requires row { row.now ≡ lead_row leads.now h }
     ensures { IsNewPair leads.now h i result }
 {
-    if leads.at(i).position != leads.at(h).position {
+    if leads.at(i).position != position {
         return None;
     }
     Some(NewPair {
         i: i as u64,
         j: h as u64,
-        above: exceeding_places(leads.row(i), leads.row(h)),
+        above: exceeding_places(leads.row(i), row),
     })
 }
 
@@ -41,9 +47,12 @@ pub(crate) fn pairs_with(
     requires { h < length leads.now.keys }
     ensures { IfOk result (λ pairs. AreNewPairs leads.now h pairs.items) }
 {
+    // Copied ahead of the loop, which reads the lead's own again behind each pair that it writes.
+    let position = leads.at(h).position;
+    let row = *leads.row(h);
     let mut pairs = Vec::with_capacity(alloc, h)?;
     for i in 0..h {
-        pairs.push_reserved(new_pair(leads, i, h));
+        pairs.push_reserved(new_pair(leads, i, h, position, &row));
     }
     Ok(pairs)
 }

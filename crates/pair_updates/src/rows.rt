@@ -1,6 +1,6 @@
 // The first sixteen exponents of leads, side by side.
-ghost use Rattle.std.specs.Prelude.{ℕ, ◌≡◌, ◌<◌, ◌≤◌, ◌↔◌, ◌-◌, IsTrue, bit_and, length, ltb, max, slice_index};
-ghost use Rattle.std.specs.Simd.Lanes.{mask_l, zip2};
+ghost use Rattle.std.specs.Prelude.{ℕ, ◌≡◌, ◌<◌, ◌≤◌, ◌↔◌, ◌-◌, IsTrue, bit_and, length, ltb, max, min, replicate, slice_index};
+ghost use Rattle.std.specs.Simd.Lanes.{Each1, mask_l, zip2};
 ghost use Rattle.monomials.specs.Exponents.{exponents_of};
 ghost use Rattle.pair_updates.specs.Rows.{EachHasMissing, TellsAll, exceeding, row};
 
@@ -32,22 +32,27 @@ pub(crate) fn divides_rows(k: &[u16; 16], a: &[u16; 16], b: &[u16; 16]) -> bool
     divides
 }
 
-// A bit for each of sixteen places at which the one is below the other, the first place's lowest.
-fn below(a: u16x16, b: u16x16) -> u64
-    requires left { length a ≡ 16 }
-    requires right { length b ≡ 16 }
-    ensures { result ≡ mask_l (zip2 (λ x y. ltb x y) a b) }
+// A bit for each of sixteen bytes below 128, the first byte's lowest: is it above this number? The bytes are raised until the highest bit
+// of each says so: a plain comparison with 0 is compiled into one of the wider places that the bytes come from, which takes longer.
+fn places_above(bytes: u8x16, number: u8) -> u64
+    requires long { length bytes ≡ 16 }
+    requires bytes { Each1 (λ e. e < 128) bytes }
+    requires number { number < 128 }
+    ensures { result ≡ mask_l (zip2 (λ u e. ltb u e) (replicate 16 number) bytes) }
 {
-    a.simd_lt(b).to_bitmask()
+    u8x16::splat(127)
+        .simd_lt(bytes + u8x16::splat(127 - number))
+        .to_bitmask()
 }
 
-// By how much each place of the one is above the other's, 0 where it is not.
-fn excesses(a: &[u16; 16], b: &[u16; 16]) -> [u16; 16]
-    ensures { result ≡ zip2 ◌-◌ a.now b.now }
+// By how much each place of the one is above the other's, 0 where it is not, and 4 where it is by more: a byte each, so that one
+// comparison of sixteen bytes tells all places.
+fn excesses(a: &[u16; 16], b: &[u16; 16]) -> [u8; 16]
+    ensures { result ≡ zip2 (λ x y. min (x - y) 4) a.now b.now }
 {
     let mut to = [0; 16];
     for v in 0..16 {
-        to[v] = a[v].saturating_sub(b[v]);
+        to[v] = a[v].saturating_sub(b[v]).min(4) as u8;
     }
     to
 }
@@ -56,11 +61,11 @@ fn excesses(a: &[u16; 16], b: &[u16; 16]) -> [u16; 16]
 pub(crate) fn exceeding_places(a: &[u16; 16], b: &[u16; 16]) -> u64
     ensures { result ≡ mask_l (exceeding a.now b.now) }
 {
-    let excess = u16x16::from_array(excesses(a, b));
-    below(u16x16::splat(0), excess)
-        | below(u16x16::splat(1), excess) << 16
-        | below(u16x16::splat(2), excess) << 32
-        | below(u16x16::splat(3), excess) << 48
+    let excess = u8x16::from_array(excesses(a, b));
+    places_above(excess, 0)
+        | places_above(excess, 1) << 16
+        | places_above(excess, 2) << 32
+        | places_above(excess, 3) << 48
 }
 
 /// Is each bit of the one a bit of the other?
