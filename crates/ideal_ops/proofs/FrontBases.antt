@@ -1,5 +1,5 @@
 -- The runs over a ring with one more variable in front, and the bases that they give
-use Rattle.std.proofs.Common.{List, [], inl, inr, subst, suc, sym, ℕ, ◌∷◌}
+use Rattle.std.proofs.Common.{List, [], inl, inr, refl, subst, suc, sym, ℕ, ◌∷◌}
 use Rattle.std.specs.Prelude.{◌↔◌}
 use Rattle.formal_sums.proofs.OfRank.{IsOfRank_of}
 use Rattle.formal_sums.specs.Combinations.{IsMember}
@@ -7,6 +7,7 @@ use Rattle.formal_sums.specs.FormalSums.{Each, FormalSum, IsOfRank}
 use Rattle.bases.specs.Bases.{IsReducedBasis}
 use Rattle.bases.specs.Settings.{IsLawful, Setting}
 use Rattle.reduced_bases.proofs.Comparing.{IsReducedBasis_same}
+use Rattle.operation_laws.proofs.Graded.{back_graded}
 use Rattle.operation_laws.proofs.Plain.{intersect_plain, saturate_plain}
 use Rattle.operation_laws.proofs.RankFacts.{back_rank, intersection_rank, saturation_rank}
 use Rattle.operation_laws.proofs.Running.{lawful_elimination}
@@ -17,12 +18,14 @@ use Rattle.term_lists.specs.Rings.{ring_comparison, setting, variables}
 use Rattle.term_lists.specs.Vectors.{HasPositions, sum_of, sums_of}
 use Rattle.term_lists.specs.declared.ring.Ring.{Ring}
 use Rattle.groebner_iface.specs.Runs.{IsReducedBasisOf}
-use Rattle.syzygy_engine.proofs.Standing.{Terms, rank_of_positions, ranks_of_positions, stand_module}
+use Rattle.syzygy_engine.proofs.Standing.{Terms, rank_of_positions, ranks_of_positions, stand_basis, stand_module}
 use Rattle.ideal_ops.specs.Answers.{IsBasisOfThose}
 use Rattle.ideal_ops.specs.FrontSteps.{AreRunsOnFront, IsBackBasis}
 use Rattle.ideal_ops.specs.FrontVariable.{AreFrontRuns, IsFrontVector}
+use Rattle.ideal_ops.specs.GradedOrders.{IsGrevlex}
 use Rattle.ideal_ops.specs.Runs.{AreVectorsFor}
 use Rattle.ideal_ops.proofs.Dividing.{member_rank}
+use Rattle.ideal_ops.proofs.GradedOrders.{graded_lawful, graded_setting, in_own_order}
 use Rattle.ideal_ops.proofs.Shared.{own_basis, positions_for}
 
 -- runs on a list are runs on what it stands for
@@ -80,6 +83,17 @@ module _ (ring : Ring) (rank : ℕ) (lawful : IsLawful (setting ring (variables 
   back_positions list first kept run members =
       let n = variables ring in
       positions_for ring rank lawful kept (back (sums_of (suc n) first)) members (back_rank rank (sums_of (suc n) first) (ranks_of_positions (suc n) rank first run.positions))
+
+  -- where the ring's own order compares them alike, the members that are taken back are the reduced basis of their module
+  pub back_itself :
+      IsGrevlex ring rank → (list first kept : List Terms) → Each (HasPositions rank) list → IsReducedBasisOf (front_ring ring) rank list first
+      → AreVectorsFor ring (back (sums_of (suc (variables ring)) first)) kept → IsReducedBasisOf ring rank kept kept
+  back_itself graded list first kept low run members =
+      let n = variables ring in
+      let G = sums_of (suc n) first in
+      stand_basis ring rank kept (back G) lawful members.vectors members.stand (back_positions list first kept run members)
+      (in_own_order ring rank lawful graded (back G) (back_rank rank G (ranks_of_positions (suc n) rank first run.positions))
+      (back_graded (graded_setting ring rank) 1 ring.weights (sums_of (suc n) list) G (graded_lawful ring rank lawful) refl (ranks_of_positions (suc n) rank list low) run.basis))
 
   -- the first run on what the list stands for
   front_basis :

@@ -1,5 +1,6 @@
 pub mod Shared
 pub mod Free
+pub mod GradedOrders
 mod Witness
 mod Dividing
 mod ModuloRuns

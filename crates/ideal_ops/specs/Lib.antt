@@ -4,6 +4,7 @@ pub mod Modulo
 pub mod Components
 pub mod Products
 pub mod FrontVariable
+pub mod GradedOrders
 -- between its steps
 pub mod FrontSteps
 pub mod CoprimeLeads

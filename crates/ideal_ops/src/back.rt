@@ -10,7 +10,7 @@ ghost use Rattle.groebner_iface.specs.Calls.{CallStops, NoTrail};
 ghost use Rattle.ideal_ops.specs.FrontSteps.{AreRunsOnFront, IsBackBasis};
 ghost use Rattle.ideal_ops.specs.Runs.{AreVectorsFor};
 
-use crate::eliminating::is_free;
+use crate::eliminating::{is_free, is_grevlex};
 use groebner_iface::{Groebner, OpStop};
 use module_vectors::{NoMemory, Ring, Vect, VectList, lawful_setting};
 use risen_counts::counted_times;
@@ -45,7 +45,8 @@ fn members_back(alloc: Global, ring: &Ring, basis: VectList) -> Result<VectList,
 }
 
 /// The reduced basis of the members, without the first variable, of the basis of the list over `front` that have not that
-/// variable: a run over `front` and one in the ring's own order.
+/// variable: a run over `front` and, where the ring's own order is not graded reverse lexicographic, term over position, one
+/// in that.
 ///
 /// `Pairs` and `Degree` are those of one of the runs; `Memory` where there is none; `Trail` never.
 pub(crate) fn basis_back<R: Threads + Wait + Sync, B: Groebner>(
@@ -75,6 +76,9 @@ pub(crate) fn basis_back<R: Threads + Wait + Sync, B: Groebner>(
         Err(stop) => return Err(OpStop::from(stop)),
     };
     let fewer = members_back(alloc, ring, basis)?;
+    if is_grevlex(ring, rank) {
+        return Ok(fewer);
+    }
     match engine.reduced(rt, alloc, ring, rank, &fewer) {
         Ok(answer) => Ok(answer),
         Err(stop) => Err(OpStop::from(stop)),

@@ -1,5 +1,5 @@
 // Elimination of the first variables.
-ghost use Rattle.std.specs.Prelude.{◌≡◌, ◌≤◌, ◌<◌, ◌++◌, ◌∷◌, [], List, ℕ, length, IfOk, IfErr, OnOk};
+ghost use Rattle.std.specs.Prelude.{◌≡◌, ◌≤◌, ◌<◌, ◌++◌, ◌∷◌, ◌↔◌, [], List, ℕ, length, IfOk, IfErr, IsTrue, OnOk};
 ghost use Rattle.formal_sums.specs.FormalSums.{Each, FormalSum};
 ghost use Rattle.monomials.specs.Exponents.{exponents_of, same_exponents, unit};
 ghost use Rattle.orders.specs.MonomialOrders.{first_variables};
@@ -11,6 +11,7 @@ ghost use Rattle.term_lists.specs.Vectors.{AreTermsOver, AreVectorsOver, HasPosi
 ghost use Rattle.risen_counts.specs.Counts.{RoseAtMost};
 ghost use Rattle.groebner_iface.specs.Calls.{CallStops, NoTrail};
 ghost use Rattle.ideal_ops.specs.Answers.{IsBasisOfThose};
+ghost use Rattle.ideal_ops.specs.GradedOrders.{IsGrevlex};
 ghost use Rattle.ideal_ops.specs.Runs.{AreEliminationRuns, AreVectorsFor, elimination_ring};
 
 use crate::sorting::{sorted_list, sorted_vector};
@@ -60,6 +61,21 @@ pub fn is_free(v: &Vect, k: usize) -> bool
     true
 }
 
+/// Does the ring compare vectors of this rank in graded reverse lexicographic order, term over position? At one position both orders
+/// of modules are one. An order that eliminates then compares the vectors without its variables as the ring does, and those members of
+/// a reduced basis by it need no second run.
+pub fn is_grevlex(ring: &Ring, rank: u128) -> bool
+    ensures { IsTrue result ↔ IsGrevlex ring.now rank }
+{
+    match ring.order {
+        Order::Grevlex => match ring.module_order {
+            ModOrder::Top => true,
+            ModOrder::Pot => rank == 1,
+        },
+        Order::Lex | Order::Elim(_) => false,
+    }
+}
+
 // Puts the member behind the others if it has none of the first k variables.
 fn take_free(
     alloc: Global,
@@ -97,8 +113,8 @@ pub(crate) fn free_members(
 }
 
 /// The reduced basis of the combinations of the members without the first k variables (IVA chapter 3, section 1): a run by
-/// an order that eliminates them, term over position, and one in the ring's own order on the members of its basis that
-/// have none of them.
+/// an order that eliminates them, term over position, and, where the ring's own order is not graded reverse lexicographic,
+/// term over position, one in that on the members of its basis that have none of them.
 ///
 /// `Pairs` and `Degree` are those of one of the runs, which the engine counted and kept; `Memory` where there is none;
 /// `Trail` never.
@@ -131,6 +147,9 @@ pub fn eliminate<R: Threads + Wait + Sync, B: Groebner>(
         Err(stop) => return Err(OpStop::from(stop)),
     };
     let free = free_members(alloc, ring, &basis, k)?;
+    if is_grevlex(ring, rank) {
+        return Ok(free);
+    }
     match engine.reduced(rt, alloc, ring, rank, &free) {
         Ok(answer) => Ok(answer),
         Err(stop) => Err(OpStop::from(stop)),

@@ -51,8 +51,8 @@ fn listed(
 }
 
 /// The reduced basis of the intersection of two modules of one rank: a run on t b and (1 - t) c, for a new first variable t
-/// and the members b and c of the two lists, by an order that eliminates it, and one in the ring's own order on the members
-/// of its basis without t (IVA chapter 4, section 3).
+/// and the members b and c of the two lists, by an order that eliminates it, and, where the ring's own order is not graded
+/// reverse lexicographic, term over position, one in that on the members of its basis without t (IVA chapter 4, section 3).
 ///
 /// `Pairs` and `Degree` are those of one of the runs, which the engine counted and kept; `Trail` comes with that of t times
 /// a member of the one list or 1 - t times one of the other; `Memory` where there is none.

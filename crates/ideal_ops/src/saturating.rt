@@ -189,8 +189,9 @@ fn saturating_list(
 }
 
 /// The reduced basis of the vectors v of this rank with f^k v in the module of the list for some k of at least 1: a run on
-/// the list and (1 - t f) e_1 to (1 - t f) e_m, for a new first variable t, by an order that eliminates it, and one in the
-/// ring's own order on the members of its basis without t (IVA chapter 4, section 4).
+/// the list and (1 - t f) e_1 to (1 - t f) e_m, for a new first variable t, by an order that eliminates it, and, where the
+/// ring's own order is not graded reverse lexicographic, term over position, one in that on the members of its basis without
+/// t (IVA chapter 4, section 4).
 ///
 /// `Pairs` and `Degree` are those of one of the runs, which the engine counted and kept; `Trail` comes with that of f times
 /// t; `Memory` where there is none.

@@ -19,3 +19,6 @@ pub mod Dividing
 pub mod Lifting
 pub mod OneMarkRuns
 pub mod OnePosition
+pub mod KeptBases
+pub mod FreeParts
+pub mod Graded

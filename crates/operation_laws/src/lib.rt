@@ -9,7 +9,7 @@ pub use marked_bases::{
     lifts, marked_parts, marks_of_some, parts_behind, polynomials_by_position, remainders,
 };
 pub use module_operations::{
-    colons, eliminations, intersections, joined_lists, kernels, plain_eliminations,
-    products_of_lists, quotients, runs, saturations,
+    colons, eliminations, graded_eliminations, intersections, joined_lists, kernels,
+    plain_eliminations, products_of_lists, quotients, runs, saturations,
 };
 pub use one_more_variable::embedding;

@@ -54,9 +54,13 @@ pub fn marks_of_some()
 
 /// At one position, position over term and term over position are one order: the reduced bases are the same.
 pub fn polynomials_by_position()
-    ensures { (n : ℕ) (S : Setting n) (monomials : Exponents n → Exponents n → Ordering) (F G : List (FormalSum n))
+    ensures term_first { (n : ℕ) (S : Setting n) (monomials : Exponents n → Exponents n → Ordering) (F G : List (FormalSum n))
         → IsLawful S → IsMonomialOrder monomials → Each (HasRank 1) F → IsReducedBasis (pot_setting S.weights S.modulus 1 monomials) F G
         → IsReducedBasis (record { modulus = S.modulus; weights = S.weights; rank = 1; compare = top monomials }) F G }
+    ensures position_first { (n : ℕ) (S : Setting n) (monomials : Exponents n → Exponents n → Ordering) (F G : List (FormalSum n))
+        → IsLawful S → IsMonomialOrder monomials → Each (HasRank 1) F
+        → IsReducedBasis (record { modulus = S.modulus; weights = S.weights; rank = 1; compare = top monomials }) F G
+        → IsReducedBasis (pot_setting S.weights S.modulus 1 monomials) F G }
 {}
 
 /// Lifts. A vector has one lift at most, and each member of the module has one. Where w is the remainder of v by a

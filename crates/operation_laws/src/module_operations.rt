@@ -7,6 +7,7 @@ ghost use Rattle.formal_sums.specs.FormalSums.{FormalSum, IsOfRank, IsSame, HasR
 ghost use Rattle.formal_sums.specs.Combinations.{combination, IsMember, IsSyzygy};
 ghost use Rattle.orders.specs.KeyOrders.{top};
 ghost use Rattle.orders.specs.MonomialOrders.{IsMonomialOrder, elimination};
+ghost use Rattle.orders.specs.WeightedOrders.{weighted_grevlex};
 ghost use Rattle.bases.specs.Bases.{IsReducedBasis};
 ghost use Rattle.bases.specs.Settings.{Setting, IsLawful};
 ghost use Rattle.division_laws.specs.Elimination.{has_none_of_first};
@@ -61,6 +62,18 @@ pub fn eliminations()
     ensures members { (n k : ℕ) (S : Setting n) (ws : List ℕ) (F G R : List (FormalSum n)) (v : FormalSum n)
         → IsLawful S → IsRun (elimination_setting ws n k S) F G → IsRun S (eliminated k G) R
         → IsMember S.modulus R v ↔ IsCombinationOfKept S.modulus (has_none_of_first k) F v }
+{}
+
+/// In graded reverse lexicographic order, term over position, no second run is needed: those members of a reduced basis by an order
+/// that eliminates which have none of the variables are a reduced basis as they stand, also where the one variable in front is left
+/// out of them (IVA chapter 3, section 1).
+pub fn graded_eliminations()
+    ensures same_variables { (n k : ℕ) (S : Setting n) (ws : List ℕ) (F G : List (FormalSum n))
+        → IsLawful S → S.compare ≡ top (weighted_grevlex ws) → Each (HasRank S.rank) F → IsReducedBasis (elimination_setting ws n k S) F G
+        → IsReducedBasis S (eliminated k G) (eliminated k G) }
+    ensures fewer_variables { (n w : ℕ) (S : Setting n) (ws : List ℕ) (L G : List (FormalSum (suc n)))
+        → IsLawful S → S.compare ≡ top (weighted_grevlex ws) → Each (HasRank S.rank) L
+        → IsReducedBasis (elimination_setting (w ∷ ws) (suc n) 1 S) L G → IsReducedBasis S (back G) (back G) }
 {}
 
 /// The intersection of two modules.

@@ -31,9 +31,6 @@ use Rattle.map_laws.proofs.SecondVariables.{second_rank}
 use Rattle.map_laws.proofs.Substituting.{IsLinear_substituted}
 use Rattle.map_laws.specs.Graphs.{from_second, graph_list, in_first, of_second}
 use Rattle.map_laws.specs.Substitution.{substituted}
-use Rattle.monomial_orders.specs.Laws.{key_comparison_order}
-use Rattle.monomial_orders.specs.declared.order.Order.TheVariants.{Grevlex}
-use Rattle.monomial_orders.specs.declared.order.ModOrder.TheVariants.{Top}
 use Rattle.term_lists.proofs.NormalVectors.{residues_of, vector_positions}
 use Rattle.term_lists.specs.Rings.{ring_comparison, setting, variables}
 use Rattle.term_lists.specs.Vectors.{HasPositions, IsVectorOver, StandsFor, sum_of, sums_of}
@@ -44,8 +41,10 @@ use Rattle.vector_division.proofs.Freeing.{HasFreeTerms_of_uncovered}
 use Rattle.vector_division.proofs.Occurring.{nonzeros}
 use Rattle.vector_division.specs.Divisions.{DivisionStops}
 use Rattle.groebner_iface.specs.Runs.{IsReducedBasisOf}
-use Rattle.syzygy_engine.proofs.Standing.{Terms, rank_of_positions, ranks_of_positions, stand_module}
+use Rattle.syzygy_engine.proofs.Standing.{Terms, rank_of_positions, ranks_of_positions, stand_basis, stand_module}
 use Rattle.ideal_ops.specs.Answers.{IsBasisOfThose}
+use Rattle.ideal_ops.proofs.GradedOrders.{graded_lawful, graded_setting, in_own_order}
+use Rattle.ideal_ops.specs.GradedOrders.{IsGrevlex}
 use Rattle.ideal_ops.specs.Products.{WorkStops}
 use Rattle.ideal_ops.specs.Runs.{AreVectorsFor}
 use Rattle.ring_maps.specs.Graphs.{IsExpressionTrail}
@@ -119,6 +118,20 @@ module _ (ring graph : Ring) (images list basis : List Terms) (h : IsGraphBasis 
   -- ---- preimages
   pub member_positions : (members : List Terms) → AreVectorsFor ring (of_second (variables ring) (sums_of (variables graph) basis)) members → Each (HasPositions 1) members
   member_positions members stand = positions_for ring 1 members (of_second (variables ring) (sums_of (variables graph) basis)) (lawful 0) stand second_ranks
+
+  -- where the ring's own order compares them as the graph's does, they are the reduced basis of their module
+  pub members_itself :
+      IsGrevlex ring 1 → (members : List Terms) → AreVectorsFor ring (of_second (variables ring) (sums_of (variables graph) basis)) members
+      → IsReducedBasisOf ring 1 members members
+  members_itself graded members stand =
+      let n = variables ring in
+      let G = sums_of (variables graph) basis in
+      let K = graded_setting ring 1 in
+      let ok = graded_lawful ring 1 (lawful 1) in
+      stand_basis ring 1 members (of_second n G) (lawful 1) stand.vectors stand.stand (member_positions members stand)
+      (in_own_order ring 1 (lawful 1) graded (of_second n G) second_ranks
+      (second_reduced K ring.weights ok two refl ring.weighted I G
+      (graph_run K (ring.weights ++ ring.weights) (sums_of n images) ok refl two (ranks_of_positions n 1 images f) (sums_of n list) G (ranks_of_positions n 1 list l) is_graph)))
 
   pub basis_of_preimage :
       (members answer : List Terms) → AreVectorsFor ring (of_second (variables ring) (sums_of (variables graph) basis)) members → IsReducedBasisOf ring 1 members answer
@@ -234,9 +247,6 @@ module _ (ring graph : Ring) (images basis : List Terms) (h : IsGraphBasis ring 
         vector_positions ring (ring_comparison ring) 1 1 q (from_second (variables ring) w) (lawful 1) hq stands
         (IsOfRank_of ring.modulus.value 1 (from_second (variables ring) w) (from_second_rank (variables ring) 1 w rest_low))
 
-    lawful_grevlex : IsLawful (grevlex_setting ring)
-    lawful_grevlex = record { domain = (lawful 1).domain; order = key_comparison_order Top Grevlex ring.weights (variables ring) 1 }
-
     pub is_expression : IsExpression ring images g q
     is_expression =
         let n = variables ring in
@@ -244,15 +254,16 @@ module _ (ring graph : Ring) (images basis : List Terms) (h : IsGraphBasis ring 
         let I = graph_list p (variables graph) F [] in
         let image = image_law S' ws F (lawful 1) refl twice f_ranks G of_graph (sum_of n g) w remains.member kept in
         let K = grevlex_setting ring in
-        let run = graph_run K ws F lawful_grevlex refl twice f_ranks [] G tt of_graph in
+        let ok = graded_lawful ring 1 (lawful 1) in
+        let run = graph_run K ws F ok refl twice f_ranks [] G tt of_graph in
         record {
           vector = hq;
           positions = low;
           image_is = (IsOfRank_of p 1 (sum_of n q) (rank_of_positions n 1 q low), IsSame_trans (IsSame_linear pos (substituted F) (IsLinear_substituted F) (sum_of n q) (from_second n w) stands) image);
           kernel = of_second n G;
-          basis = second_reduced K ring.weights lawful_grevlex twice refl ring.weighted I G run;
+          basis = second_reduced K ring.weights ok twice refl ring.weighted I G run;
           members = λ x. kernel_members S' ws F (lawful 1) refl twice f_ranks G of_graph x;
-          free = λ k c. IsCongruent_trans (stands.by_key k) (second_free K ring.weights lawful_grevlex twice refl ring.weighted I G run w remains.free kept k c);
+          free = λ k c. IsCongruent_trans (stands.by_key k) (second_free K ring.weights ok twice refl ring.weighted I G run w remains.free kept k c);
         }
 
 -- the trail of the division is that of the expression

@@ -12,6 +12,7 @@ ghost use Rattle.ring_maps.specs.Maps.{IsInPreimage};
 use crate::graph::graph_basis;
 use crate::second_variables::second_members;
 use groebner_iface::{Groebner, OpStop};
+use ideal_ops::is_grevlex;
 use module_vectors::{Ring, VectList, lawful_setting};
 use risen_counts::counted_times;
 use std::alloc::Global;
@@ -20,8 +21,8 @@ use std::thread::Threads;
 
 /// The reduced basis of the polynomials whose image is in the ideal of the list, where each variable goes to its image; for an
 /// empty list that of the kernel. One run on the graph of the map and the list, by an order that eliminates the variables of
-/// the ring to which the map goes, and one in the ring's own order on the members of its basis that have none of them (IVA
-/// chapter 3, section 3).
+/// the ring to which the map goes, and one in the ring's own order, where that is another than graded reverse lexicographic,
+/// on the members of its basis that have none of them (IVA chapter 3, section 3).
 ///
 /// `Pairs` and `Degree` are those of one of the runs, which the engine counted and kept; `Memory` where there is none;
 /// `Trail` never.
@@ -53,6 +54,9 @@ pub fn preimage<R: Threads + Wait + Sync, B: Groebner>(
         Err(stop) => return Err(stop),
     };
     let members = second_members(alloc, ring, &graph, basis)?;
+    if is_grevlex(ring, 1) {
+        return Ok(members);
+    }
     match engine.reduced(rt, alloc, ring, 1, &members) {
         Ok(answer) => Ok(answer),
         Err(stop) => Err(OpStop::from(stop)),

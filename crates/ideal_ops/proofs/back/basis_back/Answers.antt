@@ -6,7 +6,7 @@ use Rattle.groebner_iface.specs.Calls.{NoTrail}
 use Rattle.groebner_iface.specs.Runs.{IsReducedBasisOf}
 use Rattle.groebner_iface.proofs.CallingRuns.{run_stops}
 use Rattle.ideal_ops.specs.FrontSteps.{AreRunsOnFront}
-use Rattle.ideal_ops.proofs.FrontBases.{back_positions}
+use Rattle.ideal_ops.proofs.FrontBases.{back_itself, back_positions}
 use Rattle.ideal_ops.proofs.Shared.{later_stops, loose_list, two_runs}
 use Rattle.ideal_ops.proofs.back.basis_back.Goals as goal
 
@@ -26,6 +26,21 @@ members_back-requires g c =
     let ring = c.args.ring.now in
     let first = subst (λ r. IsReducedBasisOf r c.args.rank c.args.list.now c.in-Ok.basis) c.requires.front c.in-Ok.ensures.basis in
     loose_list (front_ring ring) c.in-Ok.basis first.vectors
+
+pub returns-then-is_grevlex-clause-basis : goal.returns-then-is_grevlex-clause-basis
+returns-then-is_grevlex-clause-basis g c =
+    let ring = c.args.ring.now in
+    let rank = c.args.rank in
+    let list = c.args.list.now in
+    let fewer = c.in_ok-fewer.fewer in
+    let first = subst (λ r. IsReducedBasisOf r rank list c.in-Ok.basis) c.requires.front c.in-Ok.ensures.basis in
+    record {
+      first = c.in-Ok.basis;
+      reduced = first;
+      kept = fewer;
+      members = c.in_ok-fewer.ensures;
+      second = back_itself ring rank (c.lawful_setting.ensures rank) (c.is_grevlex.ensures.0 c.if-is_grevlex.true) list c.in-Ok.basis fewer c.requires.positions first c.in_ok-fewer.ensures;
+    }
 
 pub reduced-requires-2-clause-positions : goal.reduced-requires-2-clause-positions
 reduced-requires-2-clause-positions g c =

@@ -7,6 +7,7 @@ use Rattle.groebner_iface.specs.Calls.{NoTrail}
 use Rattle.groebner_iface.specs.Runs.{IsReducedBasisOf}
 use Rattle.groebner_iface.proofs.CallingRuns.{run_stops}
 use Rattle.ideal_ops.specs.Runs.{AreEliminationRuns, AreVectorsFor, elimination_ring}
+use Rattle.ideal_ops.proofs.GradedOrders.{free_itself}
 use Rattle.ideal_ops.proofs.Shared.{basis_of_elimination, free_ranks, later_stops, loose_list, positions_for, sorted_positions, two_runs}
 use Rattle.ideal_ops.proofs.eliminating.eliminate.Goals as goal
 
@@ -34,6 +35,17 @@ free_members-requires g c =
     let ring = c.args.ring.now in
     let first = subst (λ r. IsReducedBasisOf r c.args.rank c.in_ok-sorted.sorted c.in-Ok.basis) c.in_ok-eliminating.ensures c.in-Ok.ensures.basis in
     loose_list (elimination_ring c.args.k ring) c.in-Ok.basis first.vectors
+
+pub returns-then-is_grevlex-clause-basis : goal.returns-then-is_grevlex-clause-basis
+returns-then-is_grevlex-clause-basis g c =
+    let ring = c.args.ring.now in
+    let lawful = c.lawful_setting.ensures c.args.rank in
+    let moved = subst (λ r. AreVectorsFor r (sums_of (variables r) c.args.list.now) c.in_ok-sorted.sorted) c.in_ok-eliminating.ensures c.in_ok-sorted.ensures in
+    let first = subst (λ r. IsReducedBasisOf r c.args.rank c.in_ok-sorted.sorted c.in-Ok.basis) c.in_ok-eliminating.ensures c.in-Ok.ensures.basis in
+    let free = c.in_ok-free.free in
+    basis_of_elimination ring c.args.rank lawful c.args.k c.args.list.now c.in_ok-sorted.sorted c.in-Ok.basis free free c.requires.positions moved first c.in_ok-free.ensures
+    (free_itself ring c.args.rank lawful (c.is_grevlex.ensures.0 c.if-is_grevlex.true) c.args.k c.in_ok-sorted.sorted c.in-Ok.basis free
+    (sorted_positions ring c.args.rank c.args.k c.args.list.now c.in_ok-sorted.sorted lawful c.requires.positions moved) first c.in_ok-free.ensures)
 
 pub reduced-requires-2-clause-positions : goal.reduced-requires-2-clause-positions
 reduced-requires-2-clause-positions g c =

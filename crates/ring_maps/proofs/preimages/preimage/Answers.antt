@@ -3,7 +3,7 @@ use Rattle.groebner_iface.specs.Calls.{NoTrail}
 use Rattle.groebner_iface.proofs.CallingRuns.{more_stops, run_stops}
 use Rattle.ideal_ops.proofs.Shared.{later_stops, loose_list, run_more}
 use Rattle.ring_maps.specs.Graphs.{ArePreimageRuns, IsGraphRun}
-use Rattle.ring_maps.proofs.GraphBases.{basis_of_preimage, member_positions}
+use Rattle.ring_maps.proofs.GraphBases.{basis_of_preimage, member_positions, members_itself}
 use Rattle.ring_maps.proofs.preimages.preimage.Goals as goal
 
 pub returns-in-Err-clause-stop : goal.returns-in-Err-clause-stop
@@ -18,6 +18,20 @@ second_members-requires-clause-graph g c = c.in-Ok.ensures.basis.run.doubled
 
 pub second_members-requires-clause-basis : goal.second_members-requires-clause-basis
 second_members-requires-clause-basis g c = loose_list c.in-Ok.found.0 c.in-Ok.found.1 c.in-Ok.ensures.basis.reduced.vectors
+
+pub returns-then-is_grevlex-clause-basis : goal.returns-then-is_grevlex-clause-basis
+returns-then-is_grevlex-clause-basis g c =
+    let ring = c.args.ring.now in
+    let graph = c.in-Ok.found.0 in
+    let images = c.args.images.now in
+    let list = c.args.list.now in
+    let basis = c.in-Ok.found.1 in
+    let found = c.in-Ok.ensures.basis in
+    let lawful = c.lawful_setting.ensures in
+    let members = c.in_ok-members.members in
+    let stand = c.in_ok-members.ensures in
+    basis_of_preimage ring graph images list basis found lawful c.requires.images_polynomials c.requires.polynomials members members stand
+    (members_itself ring graph images list basis found lawful c.requires.images_polynomials c.requires.polynomials (c.is_grevlex.ensures.0 c.if-is_grevlex.true) members stand)
 
 pub reduced-requires-clause-vectors : goal.reduced-requires-clause-vectors
 reduced-requires-clause-vectors g c = c.in_ok-members.ensures.vectors
