@@ -19,12 +19,12 @@ use Rattle.term_lists.specs.Vectors.{HasPositions, sum_of, sums_of}
 use Rattle.term_lists.specs.declared.ring.Ring.{Ring}
 use Rattle.vector_division.proofs.Members.{sums_at}
 use Rattle.groebner_iface.specs.Runs.{IsReducedBasisOf}
+use Rattle.syzygy_engine.specs.Answers.{IsBasisOfThose}
 use Rattle.syzygy_engine.specs.Kernels.{GeneratesSyzygies}
 use Rattle.syzygy_engine.specs.Marking.{position_ring}
+use Rattle.syzygy_engine.specs.Runs.{AreVectorsFor}
 use Rattle.syzygy_engine.proofs.Generated.{lawful_at}
 use Rattle.syzygy_engine.proofs.Standing.{ranks_of_positions, stand_module}
-use Rattle.ideal_ops.specs.Answers.{IsBasisOfThose}
-use Rattle.ideal_ops.specs.Runs.{AreVectorsFor}
 use Rattle.resolution_maps.specs.Inducing.{Columns}
 use Rattle.ext_modules.specs.Ext.{AreExtRelations, image_of}
 use Rattle.ext_modules.specs.Units.{AreUnits}

@@ -15,13 +15,13 @@ use Rattle.ext_laws.specs.Transposes.{HaveRanks, IsInTransposedKernel, image_at,
 use Rattle.term_lists.specs.Rings.{ring_comparison, setting, variables}
 use Rattle.term_lists.specs.Vectors.{AreTermsOver, sum_of, sums_of}
 use Rattle.term_lists.specs.declared.ring.Ring.{Ring}
+use Rattle.syzygy_engine.specs.Answers.{IsBasisOfThose}
 use Rattle.syzygy_engine.proofs.Marks.{loose}
 use Rattle.syzygy_engine.proofs.Standing.{ranks_of_positions}
 use Rattle.resolution_maps.proofs.Joining.{length-degrees}
 use Rattle.resolution_maps.specs.Inducing.{Columns, maps_of}
 use Rattle.resolution_maps.specs.Resolved.{AreJoined, AreVectorsThrough, degrees_of}
 use Rattle.resolution_maps.specs.declared.maps.Map.{Map}
-use Rattle.ideal_ops.specs.Answers.{IsBasisOfThose}
 use Rattle.ext_modules.specs.Ext.{AreLinked, IsExt, columns_at, image_of}
 use Rattle.ext_modules.specs.declared.presentation.Ext.{Ext}
 

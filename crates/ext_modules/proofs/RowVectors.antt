@@ -3,24 +3,19 @@ use Rattle.std.proofs.Common.{Bool, List, [], ap, append-nil, append_assoc, ap�
 use Rattle.std.proofs.lemmas.List.{length-map, map-append}
 use Rattle.std.specs.Prelude.{nat_eq}
 use Rattle.monomials.specs.Exponents.{exponents_of}
-use Rattle.formal_sums.proofs.OfRank.{IsOfRank_of}
 use Rattle.formal_sums.proofs.WeightedSums.{Each_append}
 use Rattle.formal_sums.specs.FormalSums.{Each, FormalSum, HasRank}
-use Rattle.bases.specs.Settings.{IsLawful}
-use Rattle.operation_laws.proofs.Linear.{Each_at, Each_tabulate}
+use Rattle.operation_laws.proofs.Linear.{Each_tabulate}
 use Rattle.operation_laws.specs.Operations.{picked}
 use Rattle.ext_laws.proofs.Kernels.{row_at, rows_count}
 use Rattle.ext_laws.proofs.Rows.{entries, row_rank}
 use Rattle.ext_laws.specs.Transposes.{row_from, rows_of}
-use Rattle.term_lists.proofs.NormalVectors.{vector_positions}
-use Rattle.term_lists.specs.Rings.{ring_comparison, setting, variables}
-use Rattle.term_lists.specs.Vectors.{AreTermsOver, HasPositions, IsVectorOver, StandsFor, key_of, sum_of, sums_of}
+use Rattle.term_lists.specs.Rings.{variables}
+use Rattle.term_lists.specs.Vectors.{AreTermsOver, key_of, sum_of, sums_of}
 use Rattle.term_lists.specs.declared.ring.Ring.{Ring}
 use Rattle.vector_division.proofs.Members.{sums_at}
-use Rattle.syzygy_engine.proofs.Generated.{lawful_at}
+use Rattle.syzygy_engine.specs.Runs.{AreVectorsFor}
 use Rattle.syzygy_engine.proofs.Marks.{sum-append}
-use Rattle.syzygy_engine.proofs.Standing.{stand_next}
-use Rattle.ideal_ops.specs.Runs.{AreVectorsFor}
 use Rattle.ext_modules.specs.Rows.{AreRowsOf, entries_of, row_of}
 use Rattle.ext_modules.proofs.Putting.{Terms}
 
@@ -74,15 +69,6 @@ rows_over ring count columns rows h over = Each_tabulate (AreTermsOver ring) [] 
     subst (AreTermsOver ring) (sym (h.each i (let e = h.count_is in omega (arith, e, lt)))) (row_over ring i 0 columns over))
 
 -- ---- vectors
--- one more vector
-pub vectors_next :
-    (ring : Ring) (list : List Terms) (G : List (FormalSum (variables ring))) (v : Terms) (g : FormalSum (variables ring))
-    → AreVectorsFor ring G list → IsVectorOver ring (ring_comparison ring) v → StandsFor ring v g → AreVectorsFor ring (G ++ g ∷ []) (list ++ v ∷ [])
-vectors_next ring list G v g h hv s = record {
-  vectors = Each_append _ list (v ∷ []) h.vectors (hv, tt);
-  stand = stand_next ring list G v g h.stand s;
-}
-
 -- these are put into order, and the others are left
 pub record AreSortedTo (ring : Ring) (rows vectors left : List Terms) : Type 0 where
   pub done : List Terms
@@ -101,15 +87,6 @@ one_more_sorted ring rows vectors new left row rest h e stand = record {
 pub all_sorted : (ring : Ring) (rows vectors left : List Terms) → AreSortedTo ring rows vectors left → left ≡ [] → AreVectorsFor ring (sums_of (variables ring) rows) vectors
 all_sorted ring rows vectors left h e =
     subst (λ l. AreVectorsFor ring (sums_of (variables ring) l) vectors) (sym (h.whole ∙ ap (λ z. h.done ++ z) e ∙ append-nil h.done)) h.stand
-
--- positions of vectors that stand for formal sums of a rank
-pub positions_for :
-    (ring : Ring) (m : ℕ) (list : List Terms) (G : List (FormalSum (variables ring)))
-    → IsLawful (setting ring (variables ring) (ring_comparison ring (variables ring)) 0) → AreVectorsFor ring G list → Each (HasRank m) G → Each (HasPositions m) list
-positions_for ring m list G lawful h ranks = Each_tabulate (HasPositions m) [] list (λ k lt.
-    let l : k < length G = let e = h.stand.count in omega (arith, lt, e) in
-    vector_positions ring (ring_comparison ring) m m (get_or list k []) (get_or G k []) (lawful_at ring m lawful) (Each_at _ [] list h.vectors k lt) (h.stand.each k)
-    (IsOfRank_of ring.modulus.value m (get_or G k []) (Each_at (HasRank m) [] G ranks k l)))
 
 pub rows_ranks : {n : ℕ} (count m : ℕ) (C : List (FormalSum n)) → m ≡ length C → Each (HasRank m) (rows_of count C)
 rows_ranks {n} count m C e = Each_tabulate (HasRank m) [] (rows_of count C) (λ i lt.

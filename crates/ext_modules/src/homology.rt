@@ -6,24 +6,23 @@ ghost use Rattle.term_lists.specs.Rings.{variables};
 ghost use Rattle.term_lists.specs.Vectors.{AreTermsOver, HasPositions, sums_of};
 ghost use Rattle.risen_counts.specs.Counts.{RoseAtMost};
 ghost use Rattle.groebner_iface.specs.Calls.{CallStops, NoTrail};
+ghost use Rattle.syzygy_engine.specs.Answers.{IsBasisOfThose};
 ghost use Rattle.syzygy_engine.specs.Kernels.{runs_in_order};
 ghost use Rattle.syzygy_engine.specs.Marking.{position_ring};
-ghost use Rattle.ideal_ops.specs.Answers.{IsBasisOfThose};
-ghost use Rattle.ideal_ops.specs.Runs.{AreVectorsFor};
+ghost use Rattle.syzygy_engine.specs.Runs.{AreVectorsFor};
 ghost use Rattle.ext_modules.specs.Ext.{AreExtRuns, AreLinked, IsExt, IsExtKernel, AreExtRelations, IsRelationsRun, IsRowsRun, IsTransposedRun, image_of};
 
 use crate::Ext;
 use crate::transposing::transposed;
 use crate::units::{are_units, unit_list};
 use groebner_iface::{Groebner, OpStop};
-use ideal_ops::kernel_modulo;
 use module_vectors::{NoMemory, Ring, VectList, lawful_setting};
 use resolution_maps::Map;
 use risen_counts::counted_times;
 use std::alloc::Global;
 use std::sync::Wait;
 use std::thread::Threads;
-use syzygy_engine::{by_position, first_mark, syzygies};
+use syzygy_engine::{by_position, first_mark, kernel_modulo, syzygies};
 
 // How many columns there are. `NoMemory` for 2^63 or more, for which there is none.
 fn width_of(columns: &VectList) -> Result<u64, NoMemory>

@@ -4,7 +4,7 @@ ghost use Rattle.formal_sums.specs.FormalSums.{Each, FormalSum};
 ghost use Rattle.ext_laws.specs.Transposes.{rows_of};
 ghost use Rattle.term_lists.specs.Rings.{variables};
 ghost use Rattle.term_lists.specs.Vectors.{AreTermsOver, HasPositions, sum_of, sums_of};
-ghost use Rattle.ideal_ops.specs.Runs.{AreVectorsFor};
+ghost use Rattle.syzygy_engine.specs.Runs.{AreVectorsFor};
 
 use crate::rows::{Row, rows_of_columns};
 use module_vectors::{NoMemory, Ring, Vect, VectList};

@@ -19,12 +19,13 @@ use Rattle.term_lists.specs.declared.key.Key.{Key as CodeKey}
 use Rattle.term_lists.specs.declared.ring.Ring.{Ring}
 use Rattle.vector_division.proofs.Members.{sums_at}
 use Rattle.groebner_iface.specs.Runs.{IsReducedBasisOf}
+use Rattle.syzygy_engine.specs.Answers.{IsBasisOfThose}
+use Rattle.syzygy_engine.proofs.RunAnswers.{members_of_run, own_basis}
 use Rattle.syzygy_engine.proofs.Standing.{Terms, rank_of_positions, ranks_of_positions}
-use Rattle.ideal_ops.specs.Answers.{IsBasisOfThose}
 use Rattle.ideal_ops.specs.CoprimeLeads.{HasCoprimeLead}
 use Rattle.ideal_ops.proofs.CoprimeLeads.{member_times, nonzerodivisor}
 use Rattle.ideal_ops.proofs.Dividing.{member_rank}
-use Rattle.ideal_ops.proofs.Shared.{members_of_run, own_basis, take_next}
+use Rattle.ideal_ops.proofs.Shared.{take_next}
 
 -- ---- leads of the code's vectors
 lcm-unit : {n : ℕ} (m : Exponents n) → lcm (unit n) m ≡ m

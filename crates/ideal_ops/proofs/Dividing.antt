@@ -1,22 +1,17 @@
--- Multiples of a polynomial, and lists that stand for sums
+-- Multiples of a polynomial, and the rank of members
 use Rattle.std.proofs.Common.{List, [], ap, ap₂, arith, get_or, length, refl, suc, sym, take, zero, ℕ, ◌++◌, ◌+◌, ◌<◌, ◌∙◌, ◌∷◌, ◌≡◌}
-use Rattle.std.proofs.lemmas.List.{length-map}
 use Rattle.residues.proofs.Congruences.{IsCongruent_sym, IsCongruent_trans}
 use Rattle.monomials.specs.Exponents.{exponents_of}
 use Rattle.formal_sums.proofs.OfRank.{IsOfRank_of}
-use Rattle.formal_sums.proofs.Sameness.{IsSame_of}
 use Rattle.formal_sums.specs.Combinations.{IsMember, combination}
-use Rattle.formal_sums.specs.FormalSums.{Each, FormalSum, HasRank, IsOfRank, IsSame, product}
+use Rattle.formal_sums.specs.FormalSums.{Each, FormalSum, HasRank, IsOfRank, product}
 use Rattle.syzygy_laws.proofs.Marking.{combination_rank}
 use Rattle.operation_laws.proofs.Linear.{Each_at}
 use Rattle.operation_laws.proofs.Saturate.{single_vector}
 use Rattle.operation_laws.specs.Operations.{basis_vector, listed, multiples_of}
-use Rattle.term_lists.specs.Rings.{variables}
-use Rattle.term_lists.specs.Vectors.{AreTermsOver, sum_of, sums_of}
+use Rattle.term_lists.specs.Vectors.{AreTermsOver, sum_of}
 use Rattle.term_lists.specs.declared.key.Key.{Key as CodeKey}
 use Rattle.term_lists.specs.declared.ring.Ring.{Ring}
-use Rattle.vector_division.proofs.Members.{sums_at}
-use Rattle.syzygy_engine.specs.Marking.{StandOneByOne}
 use Rattle.syzygy_engine.proofs.Standing.{Terms}
 use Rattle.ideal_ops.specs.Components.{positioned_at}
 
@@ -55,31 +50,7 @@ pub multiples_next : {n : ℕ} (m : ℕ) (f : FormalSum n) → multiples_of (m +
 multiples_next m f = let e : 0 + m ≡ m = omega arith in
     listed_next 0 m (λ j. product f (basis_vector j)) ∙ ap (λ j. multiples_of m f ++ product f (basis_vector j) ∷ []) e
 
--- ---- lists
-pub stand_both :
-    (ring : Ring) (l m : List Terms) (G H : List (FormalSum (variables ring))) → StandOneByOne ring l G → StandOneByOne ring m H → StandOneByOne ring (l ++ m) (G ++ H)
-stand_both ring l m G H a b = go l G a.count a.each
-  where
-    go :
-        (l : List Terms) (G : List (FormalSum (variables ring))) → length l ≡ length G
-        → ((i : ℕ) → IsSame ring.modulus.value (sum_of (variables ring) (get_or l i [])) (get_or G i [])) → StandOneByOne ring (l ++ m) (G ++ H)
-    go [] [] e h = b
-    go [] (y ∷ G) e h = absurd (omega (arith, e))
-    go (x ∷ l) [] e h = absurd (omega (arith, e))
-    go (x ∷ l) (y ∷ G) e h =
-        let rest = go l G (omega (arith, e)) (λ i. h (suc i)) in
-        record { count = ap suc rest.count; each = at rest }
-      where
-        at : StandOneByOne ring (l ++ m) (G ++ H) → (i : ℕ) → IsSame ring.modulus.value (sum_of (variables ring) (get_or (x ∷ l ++ m) i [])) (get_or (y ∷ G ++ H) i [])
-        at rest zero = h 0
-        at rest (suc i) = rest.each i
-
-pub stand_itself : (ring : Ring) (list : List Terms) → StandOneByOne ring list (sums_of (variables ring) list)
-stand_itself ring list = record {
-  count = sym (length-map list (λ v. sum_of (variables ring) v));
-  each = λ i. IsSame_of ring.modulus.value _ _ (sym (sums_at (variables ring) list i));
-}
-
+-- ---- members
 -- members of the module of vectors of a rank have the rank
 pub member_rank : {n : ℕ} (p m : ℕ) (F : List (FormalSum n)) → Each (HasRank m) F → (v : FormalSum n) → IsMember p F v → IsOfRank p m v
 member_rank p m F h v a = record {

@@ -18,15 +18,16 @@ use Rattle.term_lists.specs.Rings.{ring_comparison, setting, variables}
 use Rattle.term_lists.specs.Vectors.{HasPositions, sum_of, sums_of}
 use Rattle.term_lists.specs.declared.ring.Ring.{Ring}
 use Rattle.groebner_iface.specs.Runs.{IsReducedBasisOf}
+use Rattle.syzygy_engine.specs.Answers.{IsBasisOfThose}
+use Rattle.syzygy_engine.specs.Runs.{AreVectorsFor}
+use Rattle.syzygy_engine.proofs.RunAnswers.{own_basis}
 use Rattle.syzygy_engine.proofs.Standing.{Terms, rank_of_positions, ranks_of_positions, stand_basis, stand_module}
-use Rattle.ideal_ops.specs.Answers.{IsBasisOfThose}
+use Rattle.syzygy_engine.proofs.VectorLists.{positions_for}
 use Rattle.ideal_ops.specs.FrontSteps.{AreRunsOnFront, IsBackBasis}
 use Rattle.ideal_ops.specs.FrontVariable.{AreFrontRuns, IsFrontVector}
 use Rattle.ideal_ops.specs.GradedOrders.{IsGrevlex}
-use Rattle.ideal_ops.specs.Runs.{AreVectorsFor}
 use Rattle.ideal_ops.proofs.Dividing.{member_rank}
 use Rattle.ideal_ops.proofs.GradedOrders.{graded_lawful, graded_setting, in_own_order}
-use Rattle.ideal_ops.proofs.Shared.{own_basis, positions_for}
 
 -- runs on a list are runs on what it stands for
 pub runs_for :

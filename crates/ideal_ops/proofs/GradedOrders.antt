@@ -18,10 +18,12 @@ use Rattle.term_lists.specs.Rings.{ring_comparison, setting, variables}
 use Rattle.term_lists.specs.Vectors.{HasPositions, sums_of}
 use Rattle.term_lists.specs.declared.ring.Ring.{Ring}
 use Rattle.groebner_iface.specs.Runs.{IsReducedBasisOf}
+use Rattle.syzygy_engine.specs.Runs.{AreVectorsFor}
 use Rattle.syzygy_engine.proofs.Standing.{Terms, ranks_of_positions, stand_basis}
+use Rattle.syzygy_engine.proofs.VectorLists.{positions_for}
 use Rattle.ideal_ops.specs.GradedOrders.{IsGrevlex}
-use Rattle.ideal_ops.specs.Runs.{AreVectorsFor, elimination_ring}
-use Rattle.ideal_ops.proofs.Shared.{free_ranks, positions_for}
+use Rattle.ideal_ops.specs.Runs.{elimination_ring}
+use Rattle.ideal_ops.proofs.Shared.{free_ranks}
 
 -- the setting of vectors of this rank in graded reverse lexicographic order, term over position, by the ring's weights
 abbrev pub graded_setting : (ring : Ring) → ℕ → Setting (variables ring)

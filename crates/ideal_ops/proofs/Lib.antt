@@ -3,7 +3,6 @@ pub mod Free
 pub mod GradedOrders
 mod Witness
 mod Dividing
-mod ModuloRuns
 mod SyzygyAnswers
 mod Multiplied
 mod FrontBases

@@ -26,12 +26,12 @@ use Rattle.module_vectors.specs.declared.trail.WorkStop.TheVariants as works
 use Rattle.groebner_iface.specs.Calls.{CallStops}
 use Rattle.groebner_iface.specs.Runs.{IsReducedBasisOf, StoppedRun}
 use Rattle.groebner_iface.specs.Stops.{op_stop_of_work}
-use Rattle.syzygy_engine.proofs.Standing.{Terms, ranks_of_positions, stand_module}
-use Rattle.ideal_ops.specs.Answers.{IsBasisOfThose}
+use Rattle.syzygy_engine.specs.Answers.{IsBasisOfThose}
+use Rattle.syzygy_engine.specs.Runs.{AreVectorsFor, OfRuns}
+use Rattle.syzygy_engine.proofs.RunAnswers.{members_of_run, own_basis}
+use Rattle.syzygy_engine.proofs.Standing.{Terms, ranks_of_positions, stand_both, stand_module}
+use Rattle.syzygy_engine.proofs.VectorLists.{positions_for}
 use Rattle.ideal_ops.specs.Products.{IsProductTrail, WorkStops}
-use Rattle.ideal_ops.specs.Runs.{AreVectorsFor, OfRuns}
-use Rattle.ideal_ops.proofs.Dividing.{stand_both}
-use Rattle.ideal_ops.proofs.Shared.{members_of_run, own_basis, positions_for}
 
 -- the combination of one vector is the product
 pub combination_one : (n : ℕ) (b c : Terms) → HasPositions 1 b → combination (sum_of n c ∷ []) (sum_of n b) ≡ product (sum_of n b) (sum_of n c)

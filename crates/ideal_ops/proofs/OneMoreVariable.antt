@@ -30,15 +30,15 @@ use Rattle.term_lists.specs.declared.stop.VectStop.{VectStop}
 use Rattle.term_lists.specs.declared.stop.VectStop.TheVariants.{Memory, Degree}
 use Rattle.module_vectors.specs.ProductStops.{CombinationStops}
 use Rattle.module_vectors.specs.declared.trail.KeptTrail.{KeptTrail}
+use Rattle.syzygy_engine.specs.Runs.{AreVectorsFor}
 use Rattle.syzygy_engine.proofs.Standing.{Terms}
+use Rattle.syzygy_engine.proofs.VectorLists.{vectors_next, vectors_none}
 use Rattle.ideal_ops.specs.Components.{positioned_at}
 use Rattle.ideal_ops.specs.FrontSteps.{IsFrontMonomial, IsBehindFactor}
 use Rattle.ideal_ops.specs.FrontVariable.{IsFrontTrail, IsFrontVector, front_polynomial, rest_polynomial}
 use Rattle.ideal_ops.specs.Products.{IsProductTrail}
-use Rattle.ideal_ops.specs.Runs.{AreVectorsFor}
 use Rattle.ideal_ops.proofs.Dividing.{sum_placed}
 use Rattle.ideal_ops.proofs.Free.{free_kept, free_left}
-use Rattle.ideal_ops.proofs.Shared.{vectors_next, vectors_none}
 
 -- ---- the new variable
 pub front_monomial :

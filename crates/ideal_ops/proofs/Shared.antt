@@ -1,45 +1,32 @@
--- What the operations share: lists that stand for formal sums, and bases of the vectors with a property
-use Rattle.std.proofs.Common.{List, Option, [], ap, arith, get_or, length, refl, subst, suc, sym, take}
+-- What the operations share: counts of runs, lists of vectors, and bases of the vectors with a property
+use Rattle.std.proofs.Common.{List, [], ap, arith, get_or, length, refl, subst, suc, sym, take}
 use Rattle.std.proofs.Common.{zero, ℕ, ◌++◌, ◌+◌, ◌<◌, ◌∙◌, ◌∷◌, ◌≡◌, ◌≤◌, ap₂, append_assoc}
 use Rattle.std.proofs.lemmas.List.{take_more}
 use Rattle.std.specs.Prelude.{◌↔◌}
 use Rattle.formal_sums.proofs.Combining.{Each_map, IsMember_itself}
-use Rattle.formal_sums.proofs.OfRank.{IsOfRank_of}
-use Rattle.formal_sums.proofs.Sameness.{IsSame_of}
 use Rattle.formal_sums.proofs.WeightedSums.{Each_append}
 use Rattle.formal_sums.specs.Combinations.{IsMember, IsSameModule}
-use Rattle.formal_sums.specs.FormalSums.{Each, FormalSum, HasRank}
+use Rattle.formal_sums.specs.FormalSums.{Each, HasRank}
 use Rattle.bases.specs.Bases.{IsReducedBasis}
 use Rattle.bases.specs.Settings.{IsLawful, Setting}
 use Rattle.reduced_bases.proofs.Comparing.{IsReducedBasis_same}
 use Rattle.division_laws.specs.Elimination.{has_none_of_first}
-use Rattle.operation_laws.proofs.Linear.{Each_at, Each_tabulate}
 use Rattle.operation_laws.proofs.Plain.{eliminate_plain}
 use Rattle.operation_laws.proofs.RankFacts.{eliminated_rank}
-use Rattle.operation_laws.proofs.RunFacts.{run_of}
-use Rattle.operation_laws.proofs.Running.{lawful_elimination, run_generates, run_itself}
+use Rattle.operation_laws.proofs.Running.{lawful_elimination}
 use Rattle.operation_laws.specs.Operations.{IsCombinationOfKept, eliminated, elimination_setting}
-use Rattle.term_lists.proofs.NormalVectors.{vector_positions}
 use Rattle.term_lists.specs.Rings.{ring_comparison, setting, variables}
-use Rattle.term_lists.specs.Vectors.{AreTermsOver, AreVectorsOver, HasPositions, HasVariables, IsVectorOver, StandsFor, sum_of, sums_of}
+use Rattle.term_lists.specs.Vectors.{AreTermsOver, HasPositions, HasVariables, sum_of, sums_of}
 use Rattle.term_lists.specs.declared.ring.Ring.{Ring}
-use Rattle.module_vectors.specs.declared.trail.KeptTrail.{KeptTrail}
 use Rattle.risen_counts.specs.Counts.{RoseAtMost, next_count}
-use Rattle.groebner_iface.specs.Calls.{CallStops}
-use Rattle.groebner_iface.specs.Runs.{IsReducedBasisOf, StoppedRun}
-use Rattle.groebner_iface.specs.declared.stop.OpStop.{OpStop}
-use Rattle.syzygy_engine.proofs.Marks.{loose}
-use Rattle.syzygy_engine.proofs.Standing.{Terms, ranks_of_positions, stand_module, stand_next}
-use Rattle.ideal_ops.specs.Answers.{HaveSameMembers, IsBasisOfThose}
-use Rattle.ideal_ops.specs.Runs.{AreVectorsFor, OfRuns, elimination_ring}
-
--- ---- stops
--- a stop after a run that left the count and the kept run as they were
-pub later_stops :
-    (old mid new : ℕ) (kept half kept' : Option StoppedRun) (Runs : OfRuns) (Trails : KeptTrail → Type 0) (stop : OpStop)
-    → (mid ≡ old) × (half ≡ kept) → CallStops Runs Trails mid new half kept' stop → CallStops Runs Trails old new kept kept' stop
-later_stops old mid new kept half kept' Runs Trails stop same h =
-    subst (λ a. CallStops Runs Trails a new kept kept' stop) same.0 (subst (λ k. CallStops Runs Trails mid new k kept' stop) same.1 h)
+use Rattle.groebner_iface.specs.Runs.{IsReducedBasisOf}
+use Rattle.syzygy_engine.specs.Answers.{IsBasisOfThose}
+use Rattle.syzygy_engine.specs.Runs.{AreVectorsFor}
+use Rattle.syzygy_engine.proofs.RunAnswers.{members_of_run, own_basis}
+use Rattle.syzygy_engine.proofs.Standing.{Terms, ranks_of_positions, stand_module}
+use Rattle.syzygy_engine.proofs.VectorLists.{positions_for}
+use Rattle.ideal_ops.specs.Answers.{HaveSameMembers}
+use Rattle.ideal_ops.specs.Runs.{elimination_ring}
 
 -- ---- runs
 -- one run and one more
@@ -61,9 +48,6 @@ pub sums-append : (n : ℕ) (list more : List Terms) → sums_of n (list ++ more
 sums-append n [] more = refl
 sums-append n (v ∷ list) more = ap (λ z. sum_of n v ∷ z) (sums-append n list more)
 
-pub loose_list : (ring : Ring) (list : List Terms) → AreVectorsOver ring (ring_comparison ring) list → Each (AreTermsOver ring) list
-loose_list ring list h = Each_map (λ v. IsVectorOver ring (ring_comparison ring) v) (AreTermsOver ring) list (λ v k. loose ring v k.each) h
-
 pub both_positions : (m : ℕ) (left right : List Terms) → Each (HasPositions m) left → Each (HasPositions m) right → Each (HasPositions m) (left ++ right)
 both_positions m left right h k = Each_append (HasPositions m) left right h k
 
@@ -71,35 +55,13 @@ module _ (ring : Ring) (rank : ℕ) (lawful : IsLawful (setting ring (variables 
   abbrev S : Setting (variables ring)
   S = setting ring (variables ring) (ring_comparison ring (variables ring)) rank
 
-  pub positions_for :
-      (list : List Terms) (G : List (FormalSum (variables ring))) → AreVectorsFor ring G list → Each (HasRank rank) G → Each (HasPositions rank) list
-  positions_for list G h ranks = Each_tabulate (HasPositions rank) [] list (λ k lt.
-      let l : k < length G = omega (arith, lt, h.stand.count) in
-      vector_positions ring (ring_comparison ring) rank rank (get_or list k []) (get_or G k []) lawful (Each_at _ [] list h.vectors k lt)
-      (h.stand.each k)
-      (IsOfRank_of ring.modulus.value rank (get_or G k []) (Each_at (HasRank rank) [] G ranks k l)))
-
   -- ---- answers
-  -- a run's answer is a basis of itself
-  pub own_basis : (list answer : List Terms) → Each (HasPositions rank) list → IsReducedBasisOf ring rank list answer → IsReducedBasisOf ring rank answer answer
-  own_basis list answer h run = record {
-    vectors = run.vectors;
-    positions = run.positions;
-    basis = run_itself S lawful (sums_of (variables ring) list) (sums_of (variables ring) answer) (run_of S lawful (sums_of (variables ring) list) (sums_of (variables ring) answer) (ranks_of_positions (variables ring) rank list h) run.basis);
-  }
-
-  pub members_of_run :
-      (list answer : List Terms) → Each (HasPositions rank) list → IsReducedBasisOf ring rank list answer
-      → (v : FormalSum (variables ring)) → IsMember ring.modulus.value (sums_of (variables ring) answer) v ↔ IsMember ring.modulus.value (sums_of (variables ring) list) v
-  members_of_run list answer h run v =
-      run_generates S lawful (sums_of (variables ring) list) (sums_of (variables ring) answer) (run_of S lawful (sums_of (variables ring) list) (sums_of (variables ring) answer) (ranks_of_positions (variables ring) rank list h) run.basis) v
-
   pub basis_of_sum :
       (left right answer : List Terms) → Each (HasPositions rank) left → Each (HasPositions rank) right → IsReducedBasisOf ring rank (left ++ right) answer
       → IsBasisOfThose ring rank (IsMember ring.modulus.value (sums_of (variables ring) left ++ sums_of (variables ring) right)) answer
   basis_of_sum left right answer h k run = record {
-    basis = own_basis (left ++ right) answer (both_positions rank left right h k) run;
-    members = λ v. subst (λ F. IsMember ring.modulus.value (sums_of (variables ring) answer) v ↔ IsMember ring.modulus.value F v) (sums-append (variables ring) left right) (members_of_run (left ++ right) answer (both_positions rank left right h k) run v);
+    basis = own_basis ring rank lawful (left ++ right) answer (both_positions rank left right h k) run;
+    members = λ v. subst (λ F. IsMember ring.modulus.value (sums_of (variables ring) answer) v ↔ IsMember ring.modulus.value F v) (sums-append (variables ring) left right) (members_of_run ring rank lawful (left ++ right) answer (both_positions rank left right h k) run v);
   }
 
   -- ---- two modules
@@ -107,8 +69,8 @@ module _ (ring : Ring) (rank : ℕ) (lawful : IsLawful (setting ring (variables 
       (left right answer : List Terms) → Each (HasPositions rank) left → Each (HasPositions rank) right → IsReducedBasisOf ring rank left answer → IsReducedBasisOf ring rank right answer
       → HaveSameMembers ring.modulus.value (sums_of (variables ring) left) (sums_of (variables ring) right)
   members_of_one left right answer h k a b = λ v. (
-    λ m. (members_of_run right answer k b v).0 ((members_of_run left answer h a v).1 m),
-    λ m. (members_of_run left answer h a v).0 ((members_of_run right answer k b v).1 m),
+    λ m. (members_of_run ring rank lawful right answer k b v).0 ((members_of_run ring rank lawful left answer h a v).1 m),
+    λ m. (members_of_run ring rank lawful left answer h a v).0 ((members_of_run ring rank lawful right answer k b v).1 m),
   )
 
   pub one_of_members :
@@ -132,7 +94,7 @@ module _ (ring : Ring) (rank : ℕ) (lawful : IsLawful (setting ring (variables 
       → AreVectorsFor ring (eliminated k (sums_of (variables ring) basis)) free → IsReducedBasisOf ring rank free answer
       → IsBasisOfThose ring rank (IsCombinationOfKept ring.modulus.value (has_none_of_first k) (sums_of (variables ring) list)) answer
   basis_of_elimination k list sorted basis free answer h moved first kept second = record {
-    basis = own_basis free answer (positions_for free (eliminated k (sums_of (variables ring) basis)) kept (free_ranks k (elimination_ring k ring) sorted basis first)) second;
+    basis = own_basis ring rank lawful free answer (positions_for ring rank lawful free (eliminated k (sums_of (variables ring) basis)) kept (free_ranks k (elimination_ring k ring) sorted basis first)) second;
     members = λ v. eliminate_plain S ring.weights k (sums_of (variables ring) list) (sums_of (variables ring) basis) (sums_of (variables ring) answer) v lawful (ranks_of_positions (variables ring) rank list h)
         (IsReducedBasis_same (elimination_setting ring.weights (variables ring) k S) (lawful_elimination ring.weights (variables ring) k S lawful) (sums_of (variables ring) sorted) (sums_of (variables ring) list) (sums_of (variables ring) basis) first_same first.basis)
         (IsReducedBasis_same S lawful (sums_of (variables ring) free) (eliminated k (sums_of (variables ring) basis)) (sums_of (variables ring) answer) (stand_module ring free (eliminated k (sums_of (variables ring) basis)) kept.stand) second.basis);
@@ -149,17 +111,6 @@ sorted_positions ring rank k list sorted lawful h moved =
     positions_for (elimination_ring k ring) rank (lawful_elimination ring.weights (variables ring) k (setting ring (variables ring) (ring_comparison ring (variables ring)) rank) lawful) sorted (sums_of (variables ring) list) moved (ranks_of_positions (variables ring) rank list h)
 
 -- ---- one vector more
-pub vectors_next :
-    (ring : Ring) (list : List Terms) (G : List (FormalSum (variables ring))) (v : Terms) (g : FormalSum (variables ring))
-    → AreVectorsFor ring G list → IsVectorOver ring (ring_comparison ring) v → StandsFor ring v g → AreVectorsFor ring (G ++ g ∷ []) (list ++ v ∷ [])
-vectors_next ring list G v g h hv s = record {
-  vectors = Each_append _ list (v ∷ []) h.vectors (hv, tt);
-  stand = stand_next ring list G v g h.stand s;
-}
-
-pub vectors_none : (ring : Ring) → AreVectorsFor ring [] []
-vectors_none ring = record { vectors = tt; stand = record { count = refl; each = λ i. IsSame_of ring.modulus.value _ _ refl } }
-
 pub take_next :
     (n : ℕ) (items : List Terms) (i : ℕ) (x : Terms) → i < length items → x ≡ get_or items i x
     → sums_of n (take (i + 1) items) ≡ sums_of n (take i items) ++ sum_of n x ∷ []

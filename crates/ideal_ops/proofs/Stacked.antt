@@ -19,15 +19,17 @@ use Rattle.term_lists.specs.declared.ring.Ring.{Ring}
 use Rattle.groebner_iface.specs.Calls.{CallStops, NoTrail}
 use Rattle.groebner_iface.specs.Runs.{IsReducedBasisOf, StoppedRun}
 use Rattle.groebner_iface.specs.declared.stop.OpStop.{OpStop}
+use Rattle.syzygy_engine.specs.Answers.{IsBasisOfThose}
+use Rattle.syzygy_engine.specs.Modulo.{AreModuloRuns}
+use Rattle.syzygy_engine.specs.Runs.{AreVectorsFor, IsRunFor}
 use Rattle.syzygy_engine.proofs.Marks.{sum-append}
+use Rattle.syzygy_engine.proofs.RunAnswers.{members_of_run, own_basis}
 use Rattle.syzygy_engine.proofs.Standing.{Terms, ranks_of_positions, stand_module}
+use Rattle.syzygy_engine.proofs.VectorLists.{positions_for, vectors_next}
 use Rattle.groebner_iface.proofs.CallingRuns.{more_stops}
-use Rattle.ideal_ops.specs.Answers.{IsBasisOfThose}
 use Rattle.ideal_ops.specs.Components.{AreColonRuns, raised_terms}
-use Rattle.ideal_ops.specs.Modulo.{AreModuloRuns}
-use Rattle.ideal_ops.specs.Runs.{AreVectorsFor, IsRunFor}
 use Rattle.ideal_ops.proofs.Dividing.{member_rank}
-use Rattle.ideal_ops.proofs.Shared.{members_of_run, own_basis, positions_for, take_next, vectors_next}
+use Rattle.ideal_ops.proofs.Shared.{take_next}
 
 -- ---- terms
 pub sum_raised : (n i : ℕ) (v : Terms) → sum_of n (raised_terms i v) ≡ raised i (sum_of n v)

@@ -14,14 +14,14 @@ use Rattle.term_lists.specs.Rings.{ring_comparison, setting, variables}
 use Rattle.term_lists.specs.Vectors.{HasPositions, sum_of, sums_of}
 use Rattle.term_lists.specs.declared.ring.Ring.{Ring}
 use Rattle.groebner_iface.specs.Runs.{IsReducedBasisOf}
+use Rattle.syzygy_engine.specs.Answers.{IsBasisOfThose}
 use Rattle.syzygy_engine.specs.Marking.{position_ring}
+use Rattle.syzygy_engine.specs.Runs.{AreVectorsFor}
 use Rattle.syzygy_engine.proofs.Generated.{lawful_at}
 use Rattle.syzygy_engine.proofs.Marks.{lawful_by_position}
+use Rattle.syzygy_engine.proofs.ModuloRuns.{syzygies_for}
 use Rattle.syzygy_engine.proofs.Standing.{Terms, ranks_of_positions}
-use Rattle.ideal_ops.specs.Answers.{IsBasisOfThose}
-use Rattle.ideal_ops.specs.Runs.{AreVectorsFor}
-use Rattle.ideal_ops.proofs.ModuloRuns.{syzygies_for}
-use Rattle.ideal_ops.proofs.Shared.{positions_for}
+use Rattle.syzygy_engine.proofs.VectorLists.{positions_for}
 
 -- a basis of the vectors with a property is one of those with another that says the same
 same_property :

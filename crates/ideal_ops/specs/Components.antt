@@ -5,8 +5,8 @@ use Rattle.term_lists.specs.Rings.{variables}
 use Rattle.term_lists.specs.Vectors.{sum_of, sums_of}
 use Rattle.term_lists.specs.declared.key.Key.{Key as CodeKey}
 use Rattle.term_lists.specs.declared.ring.Ring.{Ring}
-use Rattle.ideal_ops.specs.Modulo.{AreModuloRuns}
-use Rattle.ideal_ops.specs.Runs.{IsRunFor, OfRuns}
+use Rattle.syzygy_engine.specs.Modulo.{AreModuloRuns}
+use Rattle.syzygy_engine.specs.Runs.{IsRunFor, OfRuns}
 
 -- the terms, each moved to this position
 abbrev pub positioned_at : ℕ → List (CodeKey × ℕ) → List (CodeKey × ℕ)

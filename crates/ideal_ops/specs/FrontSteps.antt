@@ -9,7 +9,8 @@ use Rattle.term_lists.specs.Vectors.{IsMonomialOver, sums_of}
 use Rattle.term_lists.specs.declared.key.Key.{Key as CodeKey}
 use Rattle.term_lists.specs.declared.ring.Ring.{Ring}
 use Rattle.groebner_iface.specs.Runs.{IsReducedBasisOf}
-use Rattle.ideal_ops.specs.Runs.{AreTwoRuns, AreVectorsFor, IsRunOn, OfRuns}
+use Rattle.syzygy_engine.specs.Runs.{AreTwoRuns, AreVectorsFor, OfRuns}
+use Rattle.ideal_ops.specs.Runs.{IsRunOn}
 
 -- the front variable of the ring that has it
 pub record IsFrontMonomial (ring : Ring) (t : Monomial) : Type 0 where

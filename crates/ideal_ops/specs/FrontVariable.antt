@@ -9,7 +9,7 @@ use Rattle.term_lists.specs.declared.key.Key.{Key as CodeKey}
 use Rattle.term_lists.specs.declared.ring.Ring.{Ring}
 use Rattle.module_vectors.specs.declared.trail.KeptTrail.{KeptTrail}
 use Rattle.ideal_ops.specs.Products.{IsProductTrail}
-use Rattle.ideal_ops.specs.Runs.{AreTwoRuns, AreVectorsFor, IsRunFor, OfRuns}
+use Rattle.syzygy_engine.specs.Runs.{AreTwoRuns, AreVectorsFor, IsRunFor, OfRuns}
 
 -- the runs over the ring with a front variable, on a list that stands for these formal sums, and in the ring's own order
 -- on the members of its basis without that variable

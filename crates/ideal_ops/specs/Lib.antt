@@ -1,6 +1,5 @@
 pub mod Answers
 pub mod Runs
-pub mod Modulo
 pub mod Components
 pub mod Products
 pub mod FrontVariable

@@ -11,7 +11,7 @@ use Rattle.module_vectors.specs.declared.trail.KeptTrail.{KeptTrail}
 use Rattle.module_vectors.specs.declared.trail.TrailStart.TheVariants.{Product}
 use Rattle.module_vectors.specs.declared.trail.WorkStop.{WorkStop}
 use Rattle.module_vectors.specs.declared.trail.WorkStop.TheVariants.{Memory, Degree}
-use Rattle.ideal_ops.specs.Runs.{IsRunFor, OfRuns}
+use Rattle.syzygy_engine.specs.Runs.{IsRunFor, OfRuns}
 
 -- a trail of one product outside a run, of a monomial of its vector and the one of its members with this index
 pub record IsProductTrail (ring : Ring) (vector : List (CodeKey × ℕ)) (members : List (List (CodeKey × ℕ))) (k : ℕ) (t : KeptTrail) : Type 0 where

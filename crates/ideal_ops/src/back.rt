@@ -8,7 +8,7 @@ ghost use Rattle.term_lists.specs.Vectors.{AreTermsOver, AreVectorsOver, HasPosi
 ghost use Rattle.risen_counts.specs.Counts.{RoseAtMost};
 ghost use Rattle.groebner_iface.specs.Calls.{CallStops, NoTrail};
 ghost use Rattle.ideal_ops.specs.FrontSteps.{AreRunsOnFront, IsBackBasis};
-ghost use Rattle.ideal_ops.specs.Runs.{AreVectorsFor};
+ghost use Rattle.syzygy_engine.specs.Runs.{AreVectorsFor};
 
 use crate::eliminating::{is_free, is_grevlex};
 use groebner_iface::{Groebner, OpStop};

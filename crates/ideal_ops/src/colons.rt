@@ -7,13 +7,12 @@ ghost use Rattle.term_lists.specs.Rings.{ring_comparison, variables};
 ghost use Rattle.term_lists.specs.Vectors.{AreVectorsOver, HasPositions, IsVectorOver, StandsFor, sums_of};
 ghost use Rattle.risen_counts.specs.Counts.{RoseAtMost};
 ghost use Rattle.groebner_iface.specs.Calls.{CallStops, NoTrail};
+ghost use Rattle.syzygy_engine.specs.Answers.{IsBasisOfThose};
 ghost use Rattle.syzygy_engine.specs.Kernels.{runs_in_order};
-ghost use Rattle.ideal_ops.specs.Answers.{IsBasisOfThose};
+ghost use Rattle.syzygy_engine.specs.Runs.{AreVectorsFor, IsRunFor};
 ghost use Rattle.ideal_ops.specs.Components.{AreColonRuns};
-ghost use Rattle.ideal_ops.specs.Runs.{AreVectorsFor, IsRunFor};
 
 use crate::coprime_leads::colon_by_coprime;
-use crate::modulo::kernel_modulo;
 use crate::stacking::{block_list, stacked_list};
 use groebner_iface::{Groebner, OpStop};
 use module_vectors::{Key, NoMemory, Ring, Vect, VectList, lawful_setting};
@@ -22,7 +21,7 @@ use risen_counts::counted_times;
 use std::alloc::Global;
 use std::sync::Wait;
 use std::thread::Threads;
-use syzygy_engine::{by_position, first_mark};
+use syzygy_engine::{by_position, first_mark, kernel_modulo};
 
 /// The monomial at position 0, as a list of terms.
 pub(crate) fn one_term(alloc: Global, monomial: Mono) -> Result<Vec<(Key, u32)>, NoMemory>

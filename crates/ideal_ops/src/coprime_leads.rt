@@ -7,7 +7,7 @@ ghost use Rattle.formal_sums.specs.Combinations.{IsMember};
 ghost use Rattle.bases.specs.Leads.{head_key};
 ghost use Rattle.term_lists.specs.Rings.{ring_comparison, variables};
 ghost use Rattle.term_lists.specs.Vectors.{AreVectorsOver, HasPositions, IsVectorOver, sum_of, sums_of};
-ghost use Rattle.ideal_ops.specs.Answers.{IsBasisOfThose};
+ghost use Rattle.syzygy_engine.specs.Answers.{IsBasisOfThose};
 ghost use Rattle.ideal_ops.specs.CoprimeLeads.{HasCoprimeLead};
 
 use groebner_iface::Groebner;

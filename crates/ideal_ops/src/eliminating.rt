@@ -10,9 +10,10 @@ ghost use Rattle.term_lists.specs.Rings.{ring_comparison, variables};
 ghost use Rattle.term_lists.specs.Vectors.{AreTermsOver, AreVectorsOver, HasPositions, HasVariables, sum_of, sums_of};
 ghost use Rattle.risen_counts.specs.Counts.{RoseAtMost};
 ghost use Rattle.groebner_iface.specs.Calls.{CallStops, NoTrail};
-ghost use Rattle.ideal_ops.specs.Answers.{IsBasisOfThose};
+ghost use Rattle.syzygy_engine.specs.Answers.{IsBasisOfThose};
+ghost use Rattle.syzygy_engine.specs.Runs.{AreVectorsFor};
 ghost use Rattle.ideal_ops.specs.GradedOrders.{IsGrevlex};
-ghost use Rattle.ideal_ops.specs.Runs.{AreEliminationRuns, AreVectorsFor, elimination_ring};
+ghost use Rattle.ideal_ops.specs.Runs.{AreEliminationRuns, elimination_ring};
 
 use crate::sorting::{sorted_list, sorted_vector};
 use groebner_iface::{Groebner, OpStop};

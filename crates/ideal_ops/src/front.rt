@@ -11,7 +11,7 @@ ghost use Rattle.module_vectors.specs.ProductStops.{CombinationStops};
 ghost use Rattle.ideal_ops.specs.FrontSteps.{IsFrontMonomial, IsBehindFactor};
 ghost use Rattle.ideal_ops.specs.FrontVariable.{IsFrontTrail, IsFrontTrailOf, IsFrontVector, front_polynomial, rest_polynomial};
 ghost use Rattle.ideal_ops.specs.Products.{IsProductTrail, WorkStops};
-ghost use Rattle.ideal_ops.specs.Runs.{AreVectorsFor};
+ghost use Rattle.syzygy_engine.specs.Runs.{AreVectorsFor};
 
 use crate::colons::one_term;
 use crate::multiplying::stop_of;

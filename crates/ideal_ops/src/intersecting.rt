@@ -8,20 +8,20 @@ ghost use Rattle.term_lists.specs.Rings.{ring_comparison, variables};
 ghost use Rattle.term_lists.specs.Vectors.{AreTermsOver, AreVectorsOver, HasPositions, sums_of};
 ghost use Rattle.risen_counts.specs.Counts.{RoseAtMost};
 ghost use Rattle.groebner_iface.specs.Calls.{CallStops};
-ghost use Rattle.ideal_ops.specs.Answers.{IsBasisOfThose};
+ghost use Rattle.syzygy_engine.specs.Answers.{IsBasisOfThose};
+ghost use Rattle.syzygy_engine.specs.Runs.{AreVectorsFor};
 ghost use Rattle.ideal_ops.specs.FrontVariable.{AreIntersectionRuns, IsTrailOfIntersection};
 ghost use Rattle.ideal_ops.specs.Products.{WorkStops};
-ghost use Rattle.ideal_ops.specs.Runs.{AreVectorsFor};
 
 use crate::back::basis_back;
 use crate::front::{rest_multiples, variable, variable_multiples};
-use crate::multiplying::followed;
 use groebner_iface::{Groebner, OpStop};
 use module_vectors::{Ring, VectList, WorkStop, lawful_setting};
 use risen_counts::counted_times;
 use std::alloc::Global;
 use std::sync::Wait;
 use std::thread::Threads;
+use syzygy_engine::followed;
 
 // t b for the members b of the one list, and (1 - t) c for those of the other.
 fn listed(

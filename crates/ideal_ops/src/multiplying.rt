@@ -1,5 +1,5 @@
 // The product of an ideal and a module.
-ghost use Rattle.std.specs.Prelude.{◌≡◌, ◌<◌, ◌≤◌, ◌++◌, ◌∷◌, [], IfErr, IfOk, OnOk, get_or, length, map};
+ghost use Rattle.std.specs.Prelude.{◌≡◌, ◌<◌, ◌≤◌, ◌∷◌, [], IfErr, IfOk, OnOk, get_or, length, map};
 ghost use Rattle.formal_sums.specs.FormalSums.{Each, FormalSum, product};
 ghost use Rattle.formal_sums.specs.Combinations.{IsMember};
 ghost use Rattle.operation_laws.specs.Operations.{products_of};
@@ -9,9 +9,9 @@ ghost use Rattle.module_vectors.specs.ProductStops.{CombinationStops};
 ghost use Rattle.module_vectors.specs.declared.trail.TrailStart.TheVariants.{Product};
 ghost use Rattle.risen_counts.specs.Counts.{RoseAtMost};
 ghost use Rattle.groebner_iface.specs.Calls.{CallStops};
-ghost use Rattle.ideal_ops.specs.Answers.{IsBasisOfThose};
+ghost use Rattle.syzygy_engine.specs.Answers.{IsBasisOfThose};
+ghost use Rattle.syzygy_engine.specs.Runs.{AreVectorsFor};
 ghost use Rattle.ideal_ops.specs.Products.{IsProductRun, IsProductTrail, IsTrailOfProducts, IsTrailOfRow, WorkStops};
-ghost use Rattle.ideal_ops.specs.Runs.{AreVectorsFor};
 
 use groebner_iface::{Groebner, OpStop};
 use module_vectors::{
@@ -22,6 +22,7 @@ use risen_counts::counted_times;
 use std::alloc::Global;
 use std::sync::Wait;
 use std::thread::Threads;
+use syzygy_engine::followed;
 
 // The ring and the vector again.
 fn copy_parts(alloc: Global, ring: &Ring, b: &Vect) -> Result<(Ring, Vect), NoMemory>
@@ -169,16 +170,6 @@ fn row(alloc: Global, ring: &Ring, b: &Vect, right: &VectList) -> Result<VectLis
         list.push(v)?;
     }
     Ok(VectList::from_vec(list))
-}
-
-/// The vectors of the one list and then those of the other. They are moved.
-pub(crate) fn followed(list: VectList, more: VectList) -> Result<VectList, NoMemory>
-    ensures { IfOk result (λ all. all ≡ list ++ more) }
-{
-    let mut all = list.into_vec();
-    let mut rest = more.into_vec();
-    all.append(&mut rest)?;
-    Ok(VectList::from_vec(all))
 }
 
 // The products of the members, those of the first list outermost.

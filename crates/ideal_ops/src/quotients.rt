@@ -7,12 +7,11 @@ ghost use Rattle.term_lists.specs.Rings.{ring_comparison, variables};
 ghost use Rattle.term_lists.specs.Vectors.{AreTermsOver, AreVectorsOver, HasPositions, IsVectorOver, StandsFor, sum_of, sums_of};
 ghost use Rattle.risen_counts.specs.Counts.{RoseAtMost};
 ghost use Rattle.groebner_iface.specs.Calls.{CallStops, NoTrail};
+ghost use Rattle.syzygy_engine.specs.Answers.{IsBasisOfThose};
 ghost use Rattle.syzygy_engine.specs.Kernels.{runs_in_order};
-ghost use Rattle.ideal_ops.specs.Answers.{IsBasisOfThose};
+ghost use Rattle.syzygy_engine.specs.Runs.{AreVectorsFor};
 ghost use Rattle.ideal_ops.specs.Components.{AreQuotientRuns, positioned_at};
-ghost use Rattle.ideal_ops.specs.Runs.{AreVectorsFor};
 
-use crate::modulo::kernel_modulo;
 use crate::sorting::sorted_list;
 use groebner_iface::{Groebner, OpStop};
 use module_vectors::{Key, NoMemory, Ring, Vect, VectList, lawful_setting};
@@ -20,7 +19,7 @@ use risen_counts::counted_times;
 use std::alloc::Global;
 use std::sync::Wait;
 use std::thread::Threads;
-use syzygy_engine::{by_position, first_mark};
+use syzygy_engine::{by_position, first_mark, kernel_modulo};
 
 // Puts the term behind the others, moved to this position.
 fn push_placed(

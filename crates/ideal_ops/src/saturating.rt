@@ -8,16 +8,15 @@ ghost use Rattle.term_lists.specs.Rings.{ring_comparison, variables};
 ghost use Rattle.term_lists.specs.Vectors.{AreTermsOver, AreVectorsOver, HasPositions, IsVectorOver, StandsFor, sum_of, sums_of};
 ghost use Rattle.risen_counts.specs.Counts.{RoseAtMost};
 ghost use Rattle.groebner_iface.specs.Calls.{CallStops};
-ghost use Rattle.ideal_ops.specs.Answers.{IsBasisOfThose};
+ghost use Rattle.syzygy_engine.specs.Answers.{IsBasisOfThose};
+ghost use Rattle.syzygy_engine.specs.Runs.{AreVectorsFor};
 ghost use Rattle.ideal_ops.specs.Components.{positioned_at};
 ghost use Rattle.ideal_ops.specs.FrontSteps.{IsFrontMonomial};
 ghost use Rattle.ideal_ops.specs.FrontVariable.{AreSaturationRuns, IsFrontTrail, IsFrontVector, IsTrailOfSaturation, front_polynomial};
 ghost use Rattle.ideal_ops.specs.Products.{WorkStops};
-ghost use Rattle.ideal_ops.specs.Runs.{AreVectorsFor};
 
 use crate::back::basis_back;
 use crate::front::{all_in_front, in_front, minus_one, product_stop, variable, variable_vector};
-use crate::multiplying::followed;
 use crate::quotients::placed_terms;
 use groebner_iface::{Groebner, OpStop};
 use module_vectors::{Key, NoMemory, Ring, Vect, VectList, VectStop, WorkStop, lawful_setting};
@@ -26,7 +25,7 @@ use risen_counts::counted_times;
 use std::alloc::Global;
 use std::sync::Wait;
 use std::thread::Threads;
-use syzygy_engine::first_mark;
+use syzygy_engine::{first_mark, followed};
 
 // The stop of t u for a polynomial u, as that of u times t, with its trail.
 fn turned_stop(

@@ -3,7 +3,7 @@ ghost use Rattle.std.specs.Prelude.{◌≡◌, IfOk};
 ghost use Rattle.formal_sums.specs.FormalSums.{Each};
 ghost use Rattle.term_lists.specs.Rings.{ring_comparison, variables};
 ghost use Rattle.term_lists.specs.Vectors.{AreTermsOver, IsVectorOver, StandsFor, sum_of, sums_of};
-ghost use Rattle.ideal_ops.specs.Runs.{AreVectorsFor};
+ghost use Rattle.syzygy_engine.specs.Runs.{AreVectorsFor};
 
 use module_vectors::{NoMemory, Ring, Vect, VectList};
 use std::alloc::Global;

@@ -6,7 +6,7 @@ ghost use Rattle.operation_laws.specs.Operations.{blocks, stacked};
 ghost use Rattle.term_lists.specs.Rings.{ring_comparison, variables};
 ghost use Rattle.term_lists.specs.Vectors.{AreTermsOver, AreVectorsOver, HasPositions, IsVectorOver, StandsFor, sum_of, sums_of};
 ghost use Rattle.ideal_ops.specs.Components.{raised_terms};
-ghost use Rattle.ideal_ops.specs.Runs.{AreVectorsFor};
+ghost use Rattle.syzygy_engine.specs.Runs.{AreVectorsFor};
 
 use module_vectors::{Key, NoMemory, Ring, Vect, VectList};
 use std::alloc::Global;

@@ -41,18 +41,18 @@ use Rattle.vector_division.proofs.Freeing.{HasFreeTerms_of_uncovered}
 use Rattle.vector_division.proofs.Occurring.{nonzeros}
 use Rattle.vector_division.specs.Divisions.{DivisionStops}
 use Rattle.groebner_iface.specs.Runs.{IsReducedBasisOf}
+use Rattle.syzygy_engine.specs.Answers.{IsBasisOfThose}
+use Rattle.syzygy_engine.specs.Runs.{AreVectorsFor}
 use Rattle.syzygy_engine.proofs.Standing.{Terms, rank_of_positions, ranks_of_positions, stand_basis, stand_module}
-use Rattle.ideal_ops.specs.Answers.{IsBasisOfThose}
-use Rattle.ideal_ops.proofs.GradedOrders.{graded_lawful, graded_setting, in_own_order}
+use Rattle.syzygy_engine.proofs.VectorLists.{positions_for}
 use Rattle.ideal_ops.specs.GradedOrders.{IsGrevlex}
+use Rattle.ideal_ops.proofs.GradedOrders.{graded_lawful, graded_setting, in_own_order}
 use Rattle.ideal_ops.specs.Products.{WorkStops}
-use Rattle.ideal_ops.specs.Runs.{AreVectorsFor}
 use Rattle.ring_maps.specs.Graphs.{IsExpressionTrail}
 use Rattle.remainders.specs.Remainders.{IsRemainderOf}
 use Rattle.ring_maps.specs.GraphSteps.{IsGraphBasis}
 use Rattle.ring_maps.specs.Maps.{HasImage, IsExpression, IsInPreimage, grevlex_setting}
 use Rattle.ring_maps.proofs.Doubled.{doubled_count, doubled_modulus, doubled_setting}
-use Rattle.ring_maps.proofs.Listing.{positions_for}
 
 -- ---- kept keys
 -- where the terms are kept, the other keys have no coefficient
@@ -117,7 +117,7 @@ module _ (ring graph : Ring) (images list basis : List Terms) (h : IsGraphBasis 
 
   -- ---- preimages
   pub member_positions : (members : List Terms) → AreVectorsFor ring (of_second (variables ring) (sums_of (variables graph) basis)) members → Each (HasPositions 1) members
-  member_positions members stand = positions_for ring 1 members (of_second (variables ring) (sums_of (variables graph) basis)) (lawful 0) stand second_ranks
+  member_positions members stand = positions_for ring 1 (lawful 1) members (of_second (variables ring) (sums_of (variables graph) basis)) stand second_ranks
 
   -- where the ring's own order compares them as the graph's does, they are the reduced basis of their module
   pub members_itself :

@@ -2,10 +2,8 @@
 use Rattle.std.proofs.Common.{List, Option, [], ap, arith, get_or, length, map, refl, subst, suc, sym, take, zero, ℕ, ◌++◌, ◌+◌, ◌-◌, ◌<◌, ◌∙◌, ◌∷◌, ◌≡◌}
 use Rattle.std.proofs.lemmas.List.{map-append}
 use Rattle.monomials.specs.Exponents.{unit}
-use Rattle.formal_sums.proofs.OfRank.{IsOfRank_of}
-use Rattle.formal_sums.specs.FormalSums.{Each, FormalSum, HasRank, scale}
+use Rattle.formal_sums.specs.FormalSums.{Each, FormalSum, scale}
 use Rattle.bases.specs.Settings.{IsLawful}
-use Rattle.operation_laws.proofs.Linear.{Each_at}
 use Rattle.operation_laws.specs.Operations.{listed}
 use Rattle.map_laws.proofs.Evaluating.{graph_list_rank}
 use Rattle.map_laws.specs.Graphs.{behind, graph_list, graph_member, in_first, variable_monomial}
@@ -20,19 +18,11 @@ use Rattle.groebner_iface.specs.Calls.{CallStops}
 use Rattle.groebner_iface.specs.Runs.{StoppedRun}
 use Rattle.groebner_iface.specs.Stops.{op_stop_of_work}
 use Rattle.vector_division.proofs.Members.{sums_at}
-use Rattle.syzygy_engine.proofs.Standing.{Terms, ranks_of_positions, stand_positions}
+use Rattle.syzygy_engine.specs.Runs.{AreVectorsFor, OfRuns}
+use Rattle.syzygy_engine.proofs.Generated.{lawful_at}
+use Rattle.syzygy_engine.proofs.Standing.{Terms, ranks_of_positions}
+use Rattle.syzygy_engine.proofs.VectorLists.{positions_for, vectors_next}
 use Rattle.ideal_ops.specs.Products.{WorkStops}
-use Rattle.ideal_ops.specs.Runs.{AreVectorsFor, OfRuns}
-use Rattle.ideal_ops.proofs.Shared.{vectors_next}
-
--- ---- positions
--- their positions are below the rank of the formal sums
-pub positions_for :
-    (ring : Ring) (rank : ℕ) (list : List Terms) (G : List (FormalSum (variables ring)))
-    → IsLawful (setting ring (variables ring) (ring_comparison ring (variables ring)) 0) → AreVectorsFor ring G list → Each (HasRank rank) G → Each (HasPositions rank) list
-positions_for ring rank list G lawful h ranks =
-    stand_positions ring (ring_comparison ring) rank list G lawful h.vectors h.stand.each
-    (λ i lt. IsOfRank_of ring.modulus.value rank (get_or G i []) (Each_at (HasRank rank) [] G ranks i (let c = h.stand.count in omega (arith, lt, c))))
 
 -- ---- the members of a graph
 pub listed_next : {X : Type 0} (m : ℕ) (g : ℕ → X) → listed 0 (m + 1) g ≡ listed 0 m g ++ g m ∷ []
@@ -91,7 +81,7 @@ pub graph_positions :
     → AreVectorsFor graph (graph_list ring.modulus.value (variables graph) (sums_of (variables ring) images) (sums_of (variables ring) list)) listed → Each (HasPositions 1) listed
 graph_positions ring graph images list listed lawful f l h =
     let n = variables ring in
-    positions_for graph 1 listed (graph_list ring.modulus.value (variables graph) (sums_of n images) (sums_of n list)) lawful h
+    positions_for graph 1 (lawful_at graph 1 lawful) listed (graph_list ring.modulus.value (variables graph) (sums_of n images) (sums_of n list)) h
     (graph_list_rank ring.modulus.value (variables graph) (sums_of n images) (sums_of n list) (ranks_of_positions n 1 images f) (ranks_of_positions n 1 list l))
 
 -- ---- stops

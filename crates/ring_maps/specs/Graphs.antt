@@ -9,7 +9,7 @@ use Rattle.term_lists.specs.declared.ring.Ring.{Ring}
 use Rattle.module_vectors.specs.declared.trail.KeptTrail.{KeptTrail}
 use Rattle.vector_division.specs.Divisions.{IsDivisionTrail}
 use Rattle.groebner_iface.specs.Runs.{IsReducedBasisOf}
-use Rattle.ideal_ops.specs.Runs.{AreTwoRuns, AreVectorsFor, OfRuns}
+use Rattle.syzygy_engine.specs.Runs.{AreTwoRuns, AreVectorsFor, OfRuns}
 
 -- the run on the graph of the map and the list, over the ring of the graph
 pub record IsGraphRun (ring : Ring) (images list : List (List (CodeKey × ℕ))) (over : Ring) (rank : ℕ) (l : List (List (CodeKey × ℕ))) : Type 0 where

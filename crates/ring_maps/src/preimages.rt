@@ -5,7 +5,7 @@ ghost use Rattle.term_lists.specs.Rings.{ring_comparison, variables};
 ghost use Rattle.term_lists.specs.Vectors.{AreVectorsOver, HasPositions};
 ghost use Rattle.risen_counts.specs.Counts.{RoseAtMost};
 ghost use Rattle.groebner_iface.specs.Calls.{CallStops, NoTrail};
-ghost use Rattle.ideal_ops.specs.Answers.{IsBasisOfThose};
+ghost use Rattle.syzygy_engine.specs.Answers.{IsBasisOfThose};
 ghost use Rattle.ring_maps.specs.Graphs.{ArePreimageRuns};
 ghost use Rattle.ring_maps.specs.Maps.{IsInPreimage};
 

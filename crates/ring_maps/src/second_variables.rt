@@ -6,7 +6,7 @@ ghost use Rattle.map_laws.specs.Graphs.{exponents_from, from_second, of_second};
 ghost use Rattle.term_lists.specs.Doubling.{IsDoubled};
 ghost use Rattle.term_lists.specs.Rings.{ring_comparison, variables};
 ghost use Rattle.term_lists.specs.Vectors.{AreTermsOver, IsMonomialOver, IsVectorOver, StandsFor, sum_of, sums_of};
-ghost use Rattle.ideal_ops.specs.Runs.{AreVectorsFor};
+ghost use Rattle.syzygy_engine.specs.Runs.{AreVectorsFor};
 
 use crate::first_variables::monomial_of;
 use ideal_ops::is_free;

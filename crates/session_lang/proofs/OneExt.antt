@@ -7,7 +7,7 @@ use Rattle.operation_laws.specs.Operations.{IsSyzygyModulo}
 use Rattle.ext_laws.specs.Transposes.{IsInTransposedKernel, rank_at}
 use Rattle.ext_modules.specs.Ext.{IsExt, columns_at, image_of}
 use Rattle.ext_modules.specs.declared.presentation.Ext.{Ext}
-use Rattle.ideal_ops.specs.Answers.{IsBasisOfThose}
+use Rattle.syzygy_engine.specs.Answers.{IsBasisOfThose}
 use Rattle.term_lists.specs.Rings.{variables}
 use Rattle.term_lists.specs.Vectors.{sums_of}
 use Rattle.term_lists.specs.declared.key.Key.{Key}

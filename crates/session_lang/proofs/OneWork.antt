@@ -14,7 +14,7 @@ use Rattle.script_parse.proofs.Working.{lawful}
 use Rattle.script_parse.specs.Statements.{IsSameOperation}
 use Rattle.script_parse.specs.declared.operation.Operation.{Operation}
 use Rattle.script_parse.specs.declared.operation.Operation.TheVariants as operations
-use Rattle.ideal_ops.specs.Answers.{IsBasisOfThose}
+use Rattle.syzygy_engine.specs.Answers.{IsBasisOfThose}
 use Rattle.session_lang.proofs.OneForm.{one_reduced}
 use Rattle.session_lang.proofs.OneAnswer.{one_ring, one_value}
 use Rattle.session_lang.specs.Lines.{OperationGives}

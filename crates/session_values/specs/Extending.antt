@@ -6,7 +6,7 @@ use Rattle.term_lists.specs.Vectors.{sums_of}
 use Rattle.term_lists.specs.declared.key.Key.{Key}
 use Rattle.term_lists.specs.declared.ring.Ring.{Ring}
 use Rattle.groebner_iface.specs.Runs.{IsReducedBasisOf}
-use Rattle.ideal_ops.specs.Runs.{OfRuns}
+use Rattle.syzygy_engine.specs.Runs.{OfRuns}
 use Rattle.resolution_laws.specs.Resolutions.{IsCanonicalStart}
 use Rattle.resolution_maps.specs.Inducing.{Columns, maps_of}
 use Rattle.resolution_maps.specs.Resolved.{AreVectorsThrough}

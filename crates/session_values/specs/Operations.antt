@@ -9,8 +9,8 @@ use Rattle.term_lists.specs.Vectors.{sum_of, sums_of}
 use Rattle.term_lists.specs.declared.key.Key.{Key}
 use Rattle.term_lists.specs.declared.ring.Ring.{Ring}
 use Rattle.module_vectors.specs.declared.trail.KeptTrail.{KeptTrail}
+use Rattle.syzygy_engine.specs.Answers.{IsBasisOfThose}
 use Rattle.syzygy_engine.specs.Kernels.{IsSyzygyRun}
-use Rattle.ideal_ops.specs.Answers.{IsBasisOfThose}
 use Rattle.ideal_ops.specs.Components.{AreColonRuns, AreQuotientRuns}
 use Rattle.ideal_ops.specs.FrontVariable.{AreIntersectionRuns, AreSaturationRuns, IsTrailOfIntersection, IsTrailOfSaturation}
 use Rattle.ideal_ops.specs.Products.{IsProductRun, IsTrailOfProducts}

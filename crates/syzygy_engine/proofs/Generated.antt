@@ -1,5 +1,5 @@
 -- The syzygies that a run's basis gives
-use Rattle.std.proofs.Common.{List, [], arith, get_or, length, refl, subst, sym, ℕ, ◌+◌, ◌<◌, ◌≡◌}
+use Rattle.std.proofs.Common.{List, [], arith, get_or, length, subst, sym, ℕ, ◌+◌, ◌<◌, ◌≡◌}
 use Rattle.std.proofs.lemmas.List.{length-map}
 use Rattle.formal_sums.proofs.Combining.{IsMember_itself, IsMember_through}
 use Rattle.formal_sums.specs.Combinations.{IsSameModule}
@@ -7,13 +7,9 @@ use Rattle.formal_sums.specs.FormalSums.{Each, FormalSum, HasRank, IsOfRank}
 use Rattle.bases.proofs.Leading.{positive}
 use Rattle.bases.specs.Bases.{IsReducedBasis}
 use Rattle.bases.specs.Settings.{IsLawful, Setting}
-use Rattle.reduced_bases.proofs.Comparing.{IsReducedBasis_same}
 use Rattle.syzygy_laws.specs.Kernels.{kernel_of, pot_setting}
 use Rattle.syzygy_laws.specs.Syzygies.{marked}
 use Rattle.operation_laws.proofs.Parts.{kernel_exact, kernel_reduced}
-use Rattle.operation_laws.proofs.Plain.{kernel_plain}
-use Rattle.operation_laws.proofs.RunFacts.{run_of}
-use Rattle.operation_laws.proofs.Running.{run_itself}
 use Rattle.monomial_orders.specs.Comparisons.{comparison, key_comparison}
 use Rattle.monomial_orders.specs.Laws.{comparison_order, key_comparison_order}
 use Rattle.monomial_orders.specs.declared.order.ModOrder.TheVariants.{Pot}
@@ -54,8 +50,8 @@ module _ (ring : Ring) (q : ℕ) (list : List Terms) (lawful : IsLawful (setting
   exact = λ a. kernel_exact S (comparison ring.order ring.weights (variables ring)) q F G lawful (comparison_order ring.order ring.weights (variables ring)) ranks by_length a
 
   -- and is their reduced basis, position over term
-  pub own_basis : IsReducedBasis (position_setting ring (length list)) (kernel_of q G) (kernel_of q G)
-  own_basis =
+  pub kernel_basis : IsReducedBasis (position_setting ring (length list)) (kernel_of q G) (kernel_of q G)
+  kernel_basis =
       subst (λ m. IsReducedBasis (position_setting ring m) (kernel_of q G) (kernel_of q G)) count
       (kernel_reduced S (comparison ring.order ring.weights (variables ring)) q F G lawful (comparison_order ring.order ring.weights (variables ring)) ranks by_length)
 
@@ -95,27 +91,4 @@ module _ (ring : Ring) (q : ℕ) (list kernel : List Terms) (lawful : IsLawful (
     by_position_done e =
         stand_basis ring (length list) kernel (kernel_of q shown.basis) (lawful_at ring (length list) lawful) vectors shown.members kernel_positions
         (subst (λ o. IsReducedBasis (record { modulus = ring.modulus.value; weights = ring.weights; rank = length list; compare = key_comparison o ring.order ring.weights (variables ring) }) (kernel_of q shown.basis) (kernel_of q shown.basis)) (sym e)
-        (own_basis ring q list lawful low shown.basis shown.reduced))
-
-    -- else a run of the kernel gives the reduced basis of the syzygies
-    module _ (answer : List Terms) (run : IsReducedBasisOf ring (length list) kernel answer) where
-      abbrev K : Setting (variables ring)
-      K = setting ring (variables ring) (ring_comparison ring (variables ring)) (length list)
-
-      k_lawful : IsLawful (setting ring (variables ring) (ring_comparison ring (variables ring)) (length list))
-      k_lawful = lawful_at ring (length list) lawful
-
-      pub run_done : IsReducedBasisOf ring (length list) answer answer
-      run_done = record {
-        vectors = run.vectors;
-        positions = run.positions;
-        basis = run_itself K k_lawful (sums_of (variables ring) kernel) (sums_of (variables ring) answer)
-            (run_of K k_lawful (sums_of (variables ring) kernel) (sums_of (variables ring) answer) (ranks_of_positions (variables ring) (length list) kernel kernel_positions) run.basis);
-      }
-
-      pub run_generates : GeneratesSyzygies ring.modulus.value (sums_of (variables ring) list) (sums_of (variables ring) answer)
-      run_generates = λ a.
-          kernel_plain (setting ring (variables ring) (ring_comparison ring (variables ring)) 0) K (comparison ring.order ring.weights (variables ring)) q (sums_of (variables ring) list) shown.basis (sums_of (variables ring) answer) a
-          lawful k_lawful refl (sym (count ring q list lawful low shown.basis shown.reduced)) (comparison_order ring.order ring.weights (variables ring)) (ranks ring q list lawful low shown.basis shown.reduced)
-          (by_length ring q list lawful low shown.basis shown.reduced)
-          (IsReducedBasis_same K k_lawful (sums_of (variables ring) kernel) (kernel_of q shown.basis) (sums_of (variables ring) answer) same run.basis)
+        (kernel_basis ring q list lawful low shown.basis shown.reduced))

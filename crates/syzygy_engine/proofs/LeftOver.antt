@@ -41,7 +41,7 @@ use Rattle.groebner_iface.specs.Runs.{IsReducedBasisOf, StoppedRun}
 use Rattle.groebner_iface.specs.Stops.{op_stop_of_work}
 use Rattle.syzygy_engine.specs.Lifts.{IsByPosition, IsLiftOf, IsLiftTrail, RestStops}
 use Rattle.syzygy_engine.specs.Marking.{AreMarked, IsMarkedRun, position_ring, position_setting}
-use Rattle.syzygy_engine.proofs.Generated.{by_length, count, exact, own_basis, ranks}
+use Rattle.syzygy_engine.proofs.Generated.{by_length, count, exact, kernel_basis, ranks}
 use Rattle.syzygy_engine.proofs.Marks.{lawful_by_position, run_reduced}
 use Rattle.syzygy_engine.proofs.Standing.{Terms, rank_of_positions}
 
@@ -145,7 +145,7 @@ module _ (ring : Ring) (q : ℕ) (list done basis : List Terms) (lawful : IsLawf
     pub lift_of : IsLiftOf ring list v b
     lift_of = record {
       kernel = kernel_of q G;
-      basis = own_basis ring q list lawful low G reduced;
+      basis = kernel_basis ring q list lawful low G reduced;
       syzygies = exact ring q list lawful low G reduced;
       lift = found;
     }

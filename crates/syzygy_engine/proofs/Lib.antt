@@ -6,3 +6,7 @@ pub mod KernelSteps
 pub mod Generated
 pub mod LeftOver
 pub mod OneLift
+pub mod VectorLists
+pub mod RunAnswers
+pub mod ModuloRuns
+mod ModuloNothing

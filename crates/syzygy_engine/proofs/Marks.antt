@@ -21,7 +21,7 @@ use Rattle.monomial_orders.specs.Laws.{comparison_order}
 use Rattle.monomial_orders.specs.Monomials.{IsMonomial}
 use Rattle.monomial_orders.specs.declared.order.ModOrder.TheVariants.{Pot}
 use Rattle.term_lists.specs.Rings.{ring_comparison, setting, variables}
-use Rattle.term_lists.specs.Vectors.{AreTermsOver, HasPositions, IsTerm, IsVector, IsVectorOver, StandsFor, key_of, sum_of, sums_of}
+use Rattle.term_lists.specs.Vectors.{AreTermsOver, AreVectorsOver, HasPositions, IsTerm, IsVector, IsVectorOver, StandsFor, key_of, sum_of, sums_of}
 use Rattle.term_lists.specs.declared.ring.Ring.{Ring}
 use Rattle.vector_division.proofs.Members.{sums_at}
 use Rattle.groebner_iface.specs.Runs.{IsReducedBasisOf}
@@ -31,6 +31,9 @@ use Rattle.syzygy_engine.proofs.Standing.{Terms, ranks_of_positions, stand_modul
 -- ---- one vector
 pub loose : (ring : Ring) (v : Terms) → Each (IsTerm (variables ring) ring.weights ring.modulus.value) v → AreTermsOver ring v
 loose ring v h = Each_map _ _ v (λ t k. (k.weighed, k.reduced)) h
+
+pub loose_list : (ring : Ring) (list : List Terms) → AreVectorsOver ring (ring_comparison ring) list → Each (AreTermsOver ring) list
+loose_list ring list h = Each_map (λ v. IsVectorOver ring (ring_comparison ring) v) (AreTermsOver ring) list (λ v k. loose ring v k.each) h
 
 pub sum-append : (n : ℕ) (v w : Terms) → sum_of n (v ++ w) ≡ sum_of n v ++ sum_of n w
 sum-append n [] w = refl

@@ -104,3 +104,29 @@ module _ (ring : Ring) where
           let w = own.reduced.normal i m in
           sums_at (variables ring) list i
           ∙ normal_unique S lawful (sum_of (variables ring) (get_or list i [])) (get_or G i []) u.descends w.descends u.residues w.residues (h.each i))
+
+-- one list behind another
+pub stand_both :
+    (ring : Ring) (l m : List Terms) (G H : List (FormalSum (variables ring))) → StandOneByOne ring l G → StandOneByOne ring m H → StandOneByOne ring (l ++ m) (G ++ H)
+stand_both ring l m G H a b = go l G a.count a.each
+  where
+    go :
+        (l : List Terms) (G : List (FormalSum (variables ring))) → length l ≡ length G
+        → ((i : ℕ) → IsSame ring.modulus.value (sum_of (variables ring) (get_or l i [])) (get_or G i [])) → StandOneByOne ring (l ++ m) (G ++ H)
+    go [] [] e h = b
+    go [] (y ∷ G) e h = absurd (omega (arith, e))
+    go (x ∷ l) [] e h = absurd (omega (arith, e))
+    go (x ∷ l) (y ∷ G) e h =
+        let rest = go l G (omega (arith, e)) (λ i. h (suc i)) in
+        record { count = ap suc rest.count; each = at rest }
+      where
+        at : StandOneByOne ring (l ++ m) (G ++ H) → (i : ℕ) → IsSame ring.modulus.value (sum_of (variables ring) (get_or (x ∷ l ++ m) i [])) (get_or (y ∷ G ++ H) i [])
+        at rest zero = h 0
+        at rest (suc i) = rest.each i
+
+-- vectors stand for their own formal sums
+pub stand_itself : (ring : Ring) (list : List Terms) → StandOneByOne ring list (sums_of (variables ring) list)
+stand_itself ring list = record {
+  count = sym (length-map list (λ v. sum_of (variables ring) v));
+  each = λ i. IsSame_of ring.modulus.value _ _ (sym (sums_at (variables ring) list i));
+}

@@ -32,11 +32,11 @@ IsKernelRun ring q list over rank kernel =
 abbrev pub IsSyzygyRun : Ring → ℕ → List (List (CodeKey × ℕ)) → Ring → ℕ → List (List (CodeKey × ℕ)) → Type 0
 IsSyzygyRun ring q list over rank F = IsMarkedRun ring q list over rank F ⊎ IsKernelRun ring q list over rank F
 
--- how many runs an answer in this order of modules takes: one position over term, and one more where the order is another
+-- how many runs an answer in this order of modules takes at most: one position over term, and one more where the order is another
 abbrev pub runs_in_module_order : ModOrder → ℕ
 runs_in_module_order Pot = 1
 runs_in_module_order Top = 2
 
--- how many one in the ring's own order takes
+-- how many one in the ring's own order takes at most
 abbrev pub runs_in_order : Ring → ℕ
 runs_in_order ring = runs_in_module_order ring.module_order

@@ -8,10 +8,10 @@ ghost use Rattle.groebner_iface.specs.Calls.{CallStops, NoTrail};
 ghost use Rattle.groebner_iface.specs.Runs.{IsReducedBasisOf};
 ghost use Rattle.syzygy_engine.specs.Kernels.{GeneratesSyzygies, IsSyzygyRun, runs_in_order};
 
-use crate::marked_runs::syzygy_run;
+use crate::marking::by_position;
+use crate::modulo::kernel_modulo;
 use groebner_iface::{Groebner, OpStop};
 use module_vectors::{Ring, VectList, lawful_setting};
-use monomial_orders::ModOrder;
 use risen_counts::counted_times;
 use std::alloc::Global;
 use std::sync::Wait;
@@ -20,8 +20,9 @@ use std::thread::Threads;
 /// The reduced basis, in the ring's own order, of the syzygies of the list, vectors of this rank: the vectors a by which the
 /// combination of the list is zero. The component of a at position i is the cofactor of member i (UAG chapter 5, section 3).
 ///
-/// Where the ring's order is by position first, one run on the list with marks shows it; else a second run takes what the
-/// first one shows into the ring's order.
+/// They are the syzygies modulo no vectors (`kernel_modulo`). One run on the list with marks, position over term, shows them;
+/// where the ring's order is term over position and the list has not one vector alone, a second run takes what the first one
+/// shows into the ring's order.
 ///
 /// `Pairs` and `Degree` are those of one of these runs, which the engine counted and kept; `Memory` where there is none;
 /// `Trail` never.
@@ -48,15 +49,10 @@ pub fn syzygies<R: Threads + Wait + Sync, B: Groebner>(
 {
     counted_times();
     lawful_setting(ring);
-    let kernel = match syzygy_run(rt, alloc, engine, ring, rank, list) {
-        Ok(kernel) => kernel,
-        Err(stop) => return Err(stop),
-    };
-    match ring.module_order {
-        ModOrder::Pot => Ok(kernel),
-        ModOrder::Top => match engine.reduced(rt, alloc, ring, list.len() as u128, &kernel) {
-            Ok(basis) => Ok(basis),
-            Err(stop) => Err(OpStop::from(stop)),
-        },
+    let over = by_position(alloc, ring)?;
+    let no_members = VectList::new(alloc);
+    match kernel_modulo(rt, alloc, engine, ring, &over, rank, list, no_members) {
+        Ok(basis) => Ok(basis),
+        Err(stop) => Err(stop),
     }
 }

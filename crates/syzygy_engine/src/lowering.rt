@@ -68,7 +68,7 @@ fn take_member(
 
 /// The members of a basis that stand at this position and later ones alone, lowered, in the ring's own order. Their terms
 /// are moved.
-pub fn kernel_part(
+pub(crate) fn kernel_part(
     alloc: Global,
     ring: &Ring,
     basis: VectList,

@@ -1,4 +1,4 @@
-// The run on the marked list, and the kernel that it shows.
+// The run on the marked list.
 ghost use Rattle.std.specs.Prelude.{◌≡◌, ◌<◌, ◌≤◌, ◌+◌, IfOk, IfErr, OnOk, length};
 ghost use Rattle.formal_sums.specs.FormalSums.{Each};
 ghost use Rattle.term_lists.specs.Rings.{ring_comparison};
@@ -6,10 +6,8 @@ ghost use Rattle.term_lists.specs.Vectors.{AreVectorsOver, HasPositions};
 ghost use Rattle.risen_counts.specs.Counts.{RoseAtMost};
 ghost use Rattle.groebner_iface.specs.Calls.{CallStops, NoTrail};
 ghost use Rattle.groebner_iface.specs.Runs.{IsReducedBasisOf};
-ghost use Rattle.syzygy_engine.specs.Kernels.{IsKernelOf};
 ghost use Rattle.syzygy_engine.specs.Marking.{AreMarked, IsMarkedRun, position_ring};
 
-use crate::lowering::kernel_part;
 use crate::marking::{by_position, first_mark, marked_list};
 use groebner_iface::{Groebner, OpStop};
 use module_vectors::{Ring, VectList, lawful_setting};
@@ -48,37 +46,4 @@ pub(crate) fn marked_basis<R: Threads + Wait + Sync, B: Groebner>(
         Ok(basis) => Ok((by_position, basis)),
         Err(stop) => Err(OpStop::from(stop)),
     }
-}
-
-/// The syzygies that one run on the list, vectors of this rank, with marks shows, in the ring's own order: its members that
-/// stand at the marks alone, without the positions before. The vector at position i stands for the cofactor of member i.
-/// They generate the syzygies, and are the reduced basis of these where the ring's order is by position first
-/// (`shown_kernels`; UAG chapter 5, section 3).
-///
-/// `Pairs` and `Degree` are the run's, which the engine counted and kept; `Memory` where there is none; `Trail` never.
-pub fn syzygy_run<R: Threads + Wait + Sync, B: Groebner>(
-    rt: &R,
-    alloc: Global,
-    engine: &mut B,
-    ring: &Ring,
-    rank: u128,
-    list: &VectList,
-) -> Result<VectList, OpStop>
-    requires vectors { AreVectorsOver ring.now (ring_comparison ring.now) list.now }
-    requires positions { Each (HasPositions rank) list.now }
-    requires room { rank < 9223372036854775808 }
-    ensures vectors { IfOk result (AreVectorsOver ring.now (ring_comparison ring.now)) }
-    ensures positions { IfOk result (Each (HasPositions (length list.now))) }
-    ensures kernel { IfOk result (IsKernelOf ring.now rank list.now) }
-    ensures same { OnOk result ((B.stops engine.new ≡ B.stops engine.old) × (B.stopped engine.new ≡ B.stopped engine.old)) }
-    ensures stop { IfErr result (CallStops (IsMarkedRun ring.now rank list.now) NoTrail
-        (B.stops engine.old) (B.stops engine.new) (B.stopped engine.old) (B.stopped engine.new)) }
-    ensures later { B.stops engine.old ≤ B.stops engine.new }
-    ensures runs { RoseAtMost 1 (B.runs engine.old) (B.runs engine.new) }
-    ensures settings { B.settings engine.new ≡ B.settings engine.old }
-{
-    counted_times();
-    lawful_setting(ring);
-    let (_by_position, basis) = marked_basis(rt, alloc, engine, ring, rank, list)?;
-    Ok(kernel_part(alloc, ring, basis, first_mark(rank))?)
 }

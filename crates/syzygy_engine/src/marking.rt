@@ -74,7 +74,7 @@ fn marked_vector(alloc: Global, ring: &Ring, v: &Vect, position: u64) -> Result<
 
 /// The vectors of the list, each with 1 at a position of its own from `rank` on. `by_position` is the ring, position over
 /// term.
-pub fn marked_list(
+pub(crate) fn marked_list(
     alloc: Global,
     ring: &Ring,
     by_position: &Ring,

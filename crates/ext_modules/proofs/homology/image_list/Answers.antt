@@ -5,11 +5,12 @@ use Rattle.ext_laws.specs.Transposes.{rows_of}
 use Rattle.term_lists.specs.Rings.{variables}
 use Rattle.term_lists.specs.Vectors.{AreTermsOver, HasPositions, sum_of, sums_of}
 use Rattle.syzygy_engine.specs.Marking.{position_ring}
+use Rattle.syzygy_engine.specs.Runs.{AreVectorsFor}
 use Rattle.syzygy_engine.proofs.Marks.{lawful_by_position}
-use Rattle.ideal_ops.specs.Runs.{AreVectorsFor}
+use Rattle.syzygy_engine.proofs.VectorLists.{positions_for}
 use Rattle.resolution_maps.specs.Inducing.{Columns}
 use Rattle.resolution_maps.specs.declared.maps.Map.{Map}
-use Rattle.ext_modules.proofs.RowVectors.{positions_for, rows_ranks}
+use Rattle.ext_modules.proofs.RowVectors.{rows_ranks}
 use Rattle.ext_modules.proofs.Steps.{columns_there, image_before, positions_at, rank_before, terms_at}
 use Rattle.ext_modules.proofs.homology.image_list.Goals as goal
 
@@ -66,5 +67,5 @@ returns-clause-positions c =
     let some : 0 < c.args.k = omega (arith, c.if-k-eq0.false) in
     let stand = subst (λ r. AreVectorsFor r (rows_of count (sums_of (variables r) columns)) list) c.requires.by_position c.in_ok-list.ensures in
     subst (λ m. Each (HasPositions m) list) (sym (rank_before rank M k some ∙ ap length (columns_there maps (k - 1) x lt)))
-    (positions_for (position_ring ring) (length columns) list (rows_of count (sums_of n columns)) (lawful_by_position ring 0 (c.lawful_setting.ensures 0)) stand
+    (positions_for (position_ring ring) (length columns) (lawful_by_position ring (length columns) (c.lawful_setting.ensures 0)) list (rows_of count (sums_of n columns)) stand
     (rows_ranks count (length columns) (sums_of n columns) (sym (length-map columns (λ v. sum_of n v)))))

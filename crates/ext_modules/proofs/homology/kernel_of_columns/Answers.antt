@@ -7,9 +7,10 @@ use Rattle.term_lists.specs.Vectors.{HasPositions, sum_of, sums_of}
 use Rattle.groebner_iface.specs.Calls.{NoTrail}
 use Rattle.groebner_iface.proofs.CallingRuns.{more_stops}
 use Rattle.syzygy_engine.specs.Kernels.{IsSyzygyRun}
+use Rattle.syzygy_engine.proofs.VectorLists.{positions_for}
 use Rattle.ext_modules.specs.Ext.{IsTransposedRun}
 use Rattle.ext_modules.proofs.Presenting.{kernel_is}
-use Rattle.ext_modules.proofs.RowVectors.{positions_for, rows_ranks}
+use Rattle.ext_modules.proofs.RowVectors.{rows_ranks}
 use Rattle.ext_modules.proofs.homology.kernel_of_columns.Goals as goal
 
 pub syzygies-requires-clause-positions : goal.syzygies-requires-clause-positions
@@ -20,7 +21,7 @@ syzygies-requires-clause-positions g c κs within =
     let C = sums_of n columns in
     let rows = c.in_ok-rows.rows in
     subst (λ m. Each (HasPositions m) rows) (sym c.in_ok-width.ensures.value)
-    (positions_for ring (length columns) rows (rows_of c.args.count C) (c.lawful_setting.ensures 0) c.in_ok-rows.ensures
+    (positions_for ring (length columns) (c.lawful_setting.ensures (length columns)) rows (rows_of c.args.count C) c.in_ok-rows.ensures
     (rows_ranks c.args.count (length columns) C (sym (length-map columns (λ v. sum_of n v)))))
 
 pub syzygies-requires-clause-room : goal.syzygies-requires-clause-room

@@ -3,7 +3,7 @@ use Rattle.term_lists.specs.Rings.{variables}
 use Rattle.term_lists.specs.Vectors.{sums_of}
 use Rattle.groebner_iface.specs.Calls.{NoTrail}
 use Rattle.groebner_iface.proofs.CallingRuns.{more_stops}
-use Rattle.ideal_ops.specs.Modulo.{AreModuloRuns}
+use Rattle.syzygy_engine.specs.Modulo.{AreModuloRuns}
 use Rattle.resolution_maps.specs.Inducing.{Columns}
 use Rattle.resolution_maps.specs.declared.maps.Map.{Map}
 use Rattle.ext_modules.specs.Ext.{AreExtRelations, IsRelationsRun}

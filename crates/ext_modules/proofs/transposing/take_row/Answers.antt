@@ -1,7 +1,7 @@
 use Rattle.term_lists.specs.Rings.{variables}
 use Rattle.term_lists.specs.Vectors.{StandsFor, sum_of}
 use Rattle.std.proofs.Common.{subst}
-use Rattle.ext_modules.proofs.RowVectors.{vectors_next}
+use Rattle.syzygy_engine.proofs.VectorLists.{vectors_next}
 use Rattle.ext_modules.proofs.transposing.take_row.Goals as goal
 
 pub returns : goal.returns

@@ -1,6 +1,6 @@
 use Rattle.std.proofs.Common.{IfOk, subst}
 use Rattle.term_lists.specs.Rings.{variables}
-use Rattle.ideal_ops.specs.Runs.{AreVectorsFor}
+use Rattle.syzygy_engine.specs.Runs.{AreVectorsFor}
 use Rattle.ext_modules.proofs.RowVectors.{rows_over, rows_sums}
 use Rattle.ext_modules.proofs.transposing.transposed.Goals as goal
 

@@ -7,7 +7,9 @@ use Rattle.groebner_iface.specs.Runs.{IsReducedBasisOf}
 use Rattle.groebner_iface.proofs.CallingRuns.{run_stops}
 use Rattle.ideal_ops.specs.FrontSteps.{AreRunsOnFront}
 use Rattle.ideal_ops.proofs.FrontBases.{back_itself, back_positions}
-use Rattle.ideal_ops.proofs.Shared.{later_stops, loose_list, two_runs}
+use Rattle.syzygy_engine.proofs.Marks.{loose_list}
+use Rattle.syzygy_engine.proofs.RunAnswers.{later_stops}
+use Rattle.ideal_ops.proofs.Shared.{two_runs}
 use Rattle.ideal_ops.proofs.back.basis_back.Goals as goal
 
 pub reduced-requires-clause-vectors : goal.reduced-requires-clause-vectors

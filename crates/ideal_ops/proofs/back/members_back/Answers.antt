@@ -2,7 +2,7 @@ use Rattle.std.proofs.Common.{[], ap, append_assoc, subst, suc, sym, ◌++◌, �
 use Rattle.operation_laws.specs.Operations.{back}
 use Rattle.term_lists.specs.Rings.{variables}
 use Rattle.term_lists.specs.Vectors.{sums_of}
-use Rattle.ideal_ops.specs.Runs.{AreVectorsFor}
+use Rattle.syzygy_engine.specs.Runs.{AreVectorsFor}
 use Rattle.ideal_ops.proofs.Shared.{sums-append}
 use Rattle.ideal_ops.proofs.back.members_back.Goals as goal
 

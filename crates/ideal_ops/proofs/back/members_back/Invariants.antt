@@ -2,8 +2,8 @@ use Rattle.std.proofs.Common.{List, suc, ◌++◌, ◌≡◌}
 use Rattle.operation_laws.specs.Operations.{back}
 use Rattle.term_lists.specs.Rings.{variables}
 use Rattle.term_lists.specs.Vectors.{sums_of}
+use Rattle.syzygy_engine.specs.Runs.{AreVectorsFor}
 use Rattle.syzygy_engine.proofs.Standing.{Terms}
-use Rattle.ideal_ops.specs.Runs.{AreVectorsFor}
 use Rattle.ideal_ops.proofs.back.members_back.Given as goal
 
 abbrev pub invariant-loop-v : goal.invariant-loop-v

@@ -3,9 +3,10 @@ use Rattle.operation_laws.specs.Operations.{back, without_first}
 use Rattle.term_lists.specs.FrontVariables.{front_ring}
 use Rattle.term_lists.specs.Rings.{variables}
 use Rattle.term_lists.specs.Vectors.{StandsFor, sum_of}
-use Rattle.ideal_ops.specs.Runs.{AreVectorsFor}
+use Rattle.syzygy_engine.specs.Runs.{AreVectorsFor}
+use Rattle.syzygy_engine.proofs.VectorLists.{vectors_next}
 use Rattle.ideal_ops.proofs.OneMoreVariable.{are_back, back_left, back_next, sum_without_front}
-use Rattle.ideal_ops.proofs.Shared.{of_terms, vectors_next}
+use Rattle.ideal_ops.proofs.Shared.{of_terms}
 use Rattle.ideal_ops.proofs.back.take_back.Goals as goal
 
 pub returns-then-not-is_free : goal.returns-then-not-is_free

@@ -2,7 +2,7 @@ use Rattle.std.proofs.Common.{[], refl, ◌∷◌}
 use Rattle.operation_laws.specs.Operations.{basis_vector}
 use Rattle.groebner_iface.specs.Calls.{NoTrail}
 use Rattle.groebner_iface.proofs.CallingRuns.{run_stops}
-use Rattle.ideal_ops.specs.Runs.{IsRunFor}
+use Rattle.syzygy_engine.specs.Runs.{IsRunFor}
 use Rattle.ideal_ops.proofs.Stacked.{basis_of_one, one_positions}
 use Rattle.ideal_ops.proofs.colons.all_polynomials.Goals as goal
 

@@ -6,12 +6,12 @@ use Rattle.term_lists.specs.Vectors.{AreTermsOver, HasPositions, sums_of}
 use Rattle.groebner_iface.specs.Calls.{NoTrail}
 use Rattle.groebner_iface.proofs.CallingRuns.{more_stops}
 use Rattle.syzygy_engine.specs.Marking.{position_ring}
+use Rattle.syzygy_engine.specs.Modulo.{AreModuloRuns}
+use Rattle.syzygy_engine.specs.Runs.{AreVectorsFor}
+use Rattle.syzygy_engine.proofs.Marks.{loose_list}
+use Rattle.syzygy_engine.proofs.ModuloRuns.{runs_for}
 use Rattle.ideal_ops.specs.Components.{AreColonRuns}
-use Rattle.ideal_ops.specs.Modulo.{AreModuloRuns}
-use Rattle.ideal_ops.specs.Runs.{AreVectorsFor}
-use Rattle.ideal_ops.proofs.ModuloRuns.{runs_for}
 use Rattle.ideal_ops.proofs.Room.{blocks_room, rank_room}
-use Rattle.ideal_ops.proofs.Shared.{loose_list}
 use Rattle.ideal_ops.proofs.Stacked.{runs_of_some}
 use Rattle.ideal_ops.proofs.SyzygyAnswers.{basis_of_colon, blocks_positions, stacked_positions}
 use Rattle.ideal_ops.proofs.colons.colon_by_marks.Goals as goal

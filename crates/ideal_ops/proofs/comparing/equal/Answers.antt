@@ -3,7 +3,8 @@ use Rattle.groebner_iface.specs.Calls.{NoTrail}
 use Rattle.groebner_iface.specs.Runs.{IsReducedBasisOf}
 use Rattle.groebner_iface.proofs.CallingRuns.{run_stops}
 use Rattle.ideal_ops.specs.Runs.{IsRunOnEither}
-use Rattle.ideal_ops.proofs.Shared.{later_stops, members_of_one, one_of_members, two_runs}
+use Rattle.syzygy_engine.proofs.RunAnswers.{later_stops}
+use Rattle.ideal_ops.proofs.Shared.{members_of_one, one_of_members, two_runs}
 use Rattle.ideal_ops.proofs.Witness.{same_or_apart, settle}
 use Rattle.ideal_ops.proofs.comparing.equal.Goals as goal
 

@@ -6,9 +6,13 @@ use Rattle.term_lists.specs.Vectors.{AreTermsOver, sums_of}
 use Rattle.groebner_iface.specs.Calls.{NoTrail}
 use Rattle.groebner_iface.specs.Runs.{IsReducedBasisOf}
 use Rattle.groebner_iface.proofs.CallingRuns.{run_stops}
-use Rattle.ideal_ops.specs.Runs.{AreEliminationRuns, AreVectorsFor, elimination_ring}
+use Rattle.syzygy_engine.specs.Runs.{AreVectorsFor}
+use Rattle.syzygy_engine.proofs.Marks.{loose_list}
+use Rattle.syzygy_engine.proofs.RunAnswers.{later_stops}
+use Rattle.syzygy_engine.proofs.VectorLists.{positions_for}
+use Rattle.ideal_ops.specs.Runs.{AreEliminationRuns, elimination_ring}
 use Rattle.ideal_ops.proofs.GradedOrders.{free_itself}
-use Rattle.ideal_ops.proofs.Shared.{basis_of_elimination, free_ranks, later_stops, loose_list, positions_for, sorted_positions, two_runs}
+use Rattle.ideal_ops.proofs.Shared.{basis_of_elimination, free_ranks, sorted_positions, two_runs}
 use Rattle.ideal_ops.proofs.eliminating.eliminate.Goals as goal
 
 pub sorted_list-requires : goal.sorted_list-requires

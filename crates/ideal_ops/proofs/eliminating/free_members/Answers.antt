@@ -4,8 +4,9 @@ use Rattle.operation_laws.specs.Operations.{eliminated}
 use Rattle.term_lists.proofs.Scaling.{Each_at}
 use Rattle.term_lists.specs.Rings.{variables}
 use Rattle.term_lists.specs.Vectors.{AreTermsOver, sums_of}
-use Rattle.ideal_ops.specs.Runs.{AreVectorsFor}
-use Rattle.ideal_ops.proofs.Shared.{take_next, vectors_none}
+use Rattle.syzygy_engine.specs.Runs.{AreVectorsFor}
+use Rattle.syzygy_engine.proofs.VectorLists.{vectors_none}
+use Rattle.ideal_ops.proofs.Shared.{take_next}
 use Rattle.std.proofs.Common.{subst₂, ◌∙◌}
 use Rattle.std.proofs.lemmas.List.{take_all}
 use Rattle.ideal_ops.proofs.eliminating.free_members.Goals as goal

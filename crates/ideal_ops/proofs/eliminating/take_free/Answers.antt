@@ -2,9 +2,10 @@ use Rattle.std.proofs.Common.{subst, subst₂, sym, ◌∙◌}
 use Rattle.operation_laws.specs.Operations.{eliminated}
 use Rattle.term_lists.specs.Rings.{variables}
 use Rattle.term_lists.specs.Vectors.{sum_of}
-use Rattle.ideal_ops.specs.Runs.{AreVectorsFor}
+use Rattle.syzygy_engine.specs.Runs.{AreVectorsFor}
+use Rattle.syzygy_engine.proofs.VectorLists.{vectors_next}
 use Rattle.ideal_ops.proofs.Free.{free_kept, free_left}
-use Rattle.ideal_ops.proofs.Shared.{of_terms, vectors_next}
+use Rattle.ideal_ops.proofs.Shared.{of_terms}
 use Rattle.ideal_ops.proofs.eliminating.take_free.Goals as goal
 
 pub returns-then-not-is_free : goal.returns-then-not-is_free

@@ -6,8 +6,9 @@ use Rattle.formal_sums.specs.FormalSums.{Each}
 use Rattle.term_lists.specs.Rings.{variables}
 use Rattle.term_lists.proofs.Scaling.{Each_at}
 use Rattle.term_lists.specs.Vectors.{AreTermsOver, sum_of, sums_of}
-use Rattle.ideal_ops.specs.Runs.{AreVectorsFor}
-use Rattle.ideal_ops.proofs.Shared.{take_next, vectors_next, vectors_none}
+use Rattle.syzygy_engine.specs.Runs.{AreVectorsFor}
+use Rattle.syzygy_engine.proofs.VectorLists.{vectors_next, vectors_none}
+use Rattle.ideal_ops.proofs.Shared.{take_next}
 use Rattle.std.proofs.lemmas.List.{take_all}
 use Rattle.ideal_ops.proofs.front.all_in_front.Goals as goal
 

@@ -6,10 +6,11 @@ use Rattle.term_lists.specs.Rings.{ring_comparison, variables}
 use Rattle.term_lists.specs.Stops.{ScaledStops}
 use Rattle.term_lists.specs.Vectors.{AreVectorsOver, IsVectorOver, sum_of, sums_of}
 use Rattle.ideal_ops.specs.FrontVariable.{IsFrontTrail, IsFrontTrailOf, IsFrontVector, front_polynomial}
-use Rattle.ideal_ops.specs.Runs.{AreVectorsFor}
+use Rattle.syzygy_engine.specs.Runs.{AreVectorsFor}
+use Rattle.syzygy_engine.proofs.VectorLists.{vectors_next, vectors_none}
 use Rattle.ideal_ops.proofs.Multiplied.{more_trails}
 use Rattle.ideal_ops.proofs.OneMoreVariable.{front_at, moved_at, moved_count}
-use Rattle.ideal_ops.proofs.Shared.{take_next, vectors_next, vectors_none}
+use Rattle.ideal_ops.proofs.Shared.{take_next}
 use Rattle.std.proofs.lemmas.List.{take_all}
 use Rattle.ideal_ops.proofs.front.variable_multiples.Goals as goal
 

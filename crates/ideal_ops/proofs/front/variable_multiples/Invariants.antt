@@ -3,7 +3,7 @@ use Rattle.operation_laws.specs.Operations.{times_first}
 use Rattle.term_lists.specs.FrontVariables.{front_ring}
 use Rattle.term_lists.specs.Rings.{variables}
 use Rattle.term_lists.specs.Vectors.{sums_of}
-use Rattle.ideal_ops.specs.Runs.{AreVectorsFor}
+use Rattle.syzygy_engine.specs.Runs.{AreVectorsFor}
 use Rattle.ideal_ops.proofs.front.variable_multiples.Given as goal
 
 abbrev pub invariant-loop-i : goal.invariant-loop-i

@@ -7,7 +7,7 @@ use Rattle.ideal_ops.specs.FrontSteps.{AreRunsOnFront}
 use Rattle.ideal_ops.specs.FrontVariable.{AreIntersectionRuns, IsTrailOfIntersection}
 use Rattle.ideal_ops.proofs.FrontBases.{basis_of_intersection, intersection_positions, runs_for}
 use Rattle.ideal_ops.proofs.Multiplied.{work_stops}
-use Rattle.ideal_ops.proofs.Shared.{loose_list}
+use Rattle.syzygy_engine.proofs.Marks.{loose_list}
 use Rattle.ideal_ops.proofs.intersecting.intersect.Goals as goal
 
 pub listed-requires-clause-left : goal.listed-requires-clause-left

@@ -4,7 +4,7 @@ use Rattle.term_lists.specs.FrontVariables.{front_ring}
 use Rattle.term_lists.specs.Rings.{variables}
 use Rattle.term_lists.specs.Vectors.{sums_of}
 use Rattle.ideal_ops.specs.FrontVariable.{IsFrontTrailOf, IsTrailOfIntersection, front_polynomial}
-use Rattle.ideal_ops.specs.Runs.{AreVectorsFor}
+use Rattle.syzygy_engine.specs.Runs.{AreVectorsFor}
 use Rattle.ideal_ops.proofs.Multiplied.{more_trails, vectors_after}
 use Rattle.ideal_ops.proofs.intersecting.listed.Goals as goal
 

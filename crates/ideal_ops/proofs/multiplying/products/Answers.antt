@@ -6,7 +6,7 @@ use Rattle.term_lists.proofs.Scaling.{Each_at}
 use Rattle.term_lists.specs.Rings.{ring_comparison, variables}
 use Rattle.term_lists.specs.Vectors.{HasPositions, IsVectorOver, sum_of, sums_of}
 use Rattle.ideal_ops.specs.Products.{IsTrailOfProducts, IsTrailOfRow}
-use Rattle.ideal_ops.specs.Runs.{AreVectorsFor}
+use Rattle.syzygy_engine.specs.Runs.{AreVectorsFor}
 use Rattle.ideal_ops.proofs.Multiplied.{more_trails, products_next, vectors_after}
 use Rattle.ideal_ops.proofs.Shared.{take_next}
 use Rattle.std.proofs.lemmas.List.{take_all}

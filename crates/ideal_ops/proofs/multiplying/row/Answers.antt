@@ -5,9 +5,10 @@ use Rattle.formal_sums.specs.FormalSums.{product}
 use Rattle.term_lists.specs.Rings.{variables}
 use Rattle.term_lists.specs.Vectors.{sum_of, sums_of}
 use Rattle.ideal_ops.specs.Products.{IsProductTrail, IsTrailOfRow}
-use Rattle.ideal_ops.specs.Runs.{AreVectorsFor}
+use Rattle.syzygy_engine.specs.Runs.{AreVectorsFor}
+use Rattle.syzygy_engine.proofs.VectorLists.{vectors_next, vectors_none}
 use Rattle.ideal_ops.proofs.Multiplied.{more_trails}
-use Rattle.ideal_ops.proofs.Shared.{take_next, vectors_next, vectors_none}
+use Rattle.ideal_ops.proofs.Shared.{take_next}
 use Rattle.std.proofs.lemmas.List.{take_all}
 use Rattle.ideal_ops.proofs.multiplying.row.Goals as goal
 

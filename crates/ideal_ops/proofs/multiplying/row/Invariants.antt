@@ -2,7 +2,7 @@ use Rattle.std.proofs.Common.{map, take}
 use Rattle.formal_sums.specs.FormalSums.{product}
 use Rattle.term_lists.specs.Rings.{variables}
 use Rattle.term_lists.specs.Vectors.{sum_of, sums_of}
-use Rattle.ideal_ops.specs.Runs.{AreVectorsFor}
+use Rattle.syzygy_engine.specs.Runs.{AreVectorsFor}
 use Rattle.ideal_ops.proofs.multiplying.row.Given as goal
 
 abbrev pub invariant-loop-j : goal.invariant-loop-j

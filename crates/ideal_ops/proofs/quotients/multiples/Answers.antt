@@ -3,9 +3,9 @@ use Rattle.formal_sums.specs.FormalSums.{product}
 use Rattle.operation_laws.specs.Operations.{basis_vector, multiples_of}
 use Rattle.term_lists.specs.Rings.{variables}
 use Rattle.term_lists.specs.Vectors.{sum_of}
-use Rattle.ideal_ops.specs.Runs.{AreVectorsFor}
+use Rattle.syzygy_engine.specs.Runs.{AreVectorsFor}
+use Rattle.syzygy_engine.proofs.VectorLists.{vectors_next}
 use Rattle.ideal_ops.proofs.Dividing.{multiples_next}
-use Rattle.ideal_ops.proofs.Shared.{vectors_next}
 use Rattle.ideal_ops.proofs.quotients.multiples.Goals as goal
 
 pub loop-position-preserved : goal.loop-position-preserved

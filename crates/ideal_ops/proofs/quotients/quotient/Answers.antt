@@ -5,12 +5,11 @@ use Rattle.term_lists.specs.Rings.{variables}
 use Rattle.term_lists.specs.Vectors.{AreTermsOver, sum_of, sums_of}
 use Rattle.groebner_iface.specs.Calls.{NoTrail}
 use Rattle.groebner_iface.proofs.CallingRuns.{more_stops}
-use Rattle.syzygy_engine.proofs.Marks.{loose}
+use Rattle.syzygy_engine.specs.Modulo.{AreModuloRuns}
+use Rattle.syzygy_engine.specs.Runs.{AreVectorsFor}
+use Rattle.syzygy_engine.proofs.Marks.{loose, loose_list}
+use Rattle.syzygy_engine.proofs.ModuloRuns.{runs_for}
 use Rattle.ideal_ops.specs.Components.{AreQuotientRuns}
-use Rattle.ideal_ops.specs.Modulo.{AreModuloRuns}
-use Rattle.ideal_ops.specs.Runs.{AreVectorsFor}
-use Rattle.ideal_ops.proofs.ModuloRuns.{runs_for}
-use Rattle.ideal_ops.proofs.Shared.{loose_list}
 use Rattle.ideal_ops.proofs.SyzygyAnswers.{basis_of_quotient, members_positions, multiples_positions}
 use Rattle.ideal_ops.proofs.quotients.quotient.Goals as goal
 

@@ -1,9 +1,9 @@
 use Rattle.std.proofs.Common.{[], ap, arith, subst₂, sym, ◌++◌, ◌+◌, ◌∙◌, ◌∷◌, ◌≡◌}
 use Rattle.operation_laws.specs.Operations.{inverse_vector, listed}
 use Rattle.term_lists.specs.FrontVariables.{front_ring}
-use Rattle.ideal_ops.specs.Runs.{AreVectorsFor}
+use Rattle.syzygy_engine.specs.Runs.{AreVectorsFor}
+use Rattle.syzygy_engine.proofs.VectorLists.{vectors_next}
 use Rattle.ideal_ops.proofs.Dividing.{listed_next}
-use Rattle.ideal_ops.proofs.Shared.{vectors_next}
 use Rattle.ideal_ops.proofs.saturating.inverses.Goals as goal
 
 pub loop-position-preserved : goal.loop-position-preserved

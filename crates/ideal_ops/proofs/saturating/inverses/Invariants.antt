@@ -4,7 +4,7 @@ use Rattle.operation_laws.specs.Operations.{first_variable, inverse_vector, list
 use Rattle.term_lists.specs.FrontVariables.{front_ring}
 use Rattle.term_lists.specs.Rings.{variables}
 use Rattle.term_lists.specs.Vectors.{StandsFor}
-use Rattle.ideal_ops.specs.Runs.{AreVectorsFor}
+use Rattle.syzygy_engine.specs.Runs.{AreVectorsFor}
 use Rattle.ideal_ops.proofs.saturating.inverses.Given as goal
 
 abbrev pub invariant-loop-position : goal.invariant-loop-position

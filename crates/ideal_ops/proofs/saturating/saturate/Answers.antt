@@ -4,14 +4,13 @@ use Rattle.term_lists.specs.FrontVariables.{front_ring}
 use Rattle.term_lists.specs.Rings.{variables}
 use Rattle.term_lists.specs.Vectors.{sum_of, sums_of}
 use Rattle.groebner_iface.specs.Calls.{NoTrail}
-use Rattle.syzygy_engine.proofs.Marks.{loose}
+use Rattle.syzygy_engine.specs.Runs.{AreVectorsFor}
+use Rattle.syzygy_engine.proofs.Marks.{loose, loose_list}
 use Rattle.groebner_iface.proofs.CallingRuns.{more_stops}
 use Rattle.ideal_ops.specs.FrontSteps.{AreRunsOnFront}
 use Rattle.ideal_ops.specs.FrontVariable.{AreSaturationRuns, IsTrailOfSaturation}
-use Rattle.ideal_ops.specs.Runs.{AreVectorsFor}
 use Rattle.ideal_ops.proofs.FrontBases.{basis_of_saturation, runs_for, saturation_positions}
 use Rattle.ideal_ops.proofs.Multiplied.{work_stops}
-use Rattle.ideal_ops.proofs.Shared.{loose_list}
 use Rattle.ideal_ops.proofs.saturating.saturate.Goals as goal
 
 pub saturating_list-requires-clause-list : goal.saturating_list-requires-clause-list

@@ -3,7 +3,7 @@ use Rattle.operation_laws.specs.Operations.{inverse_vector, listed, saturation_l
 use Rattle.term_lists.specs.FrontVariables.{front_ring}
 use Rattle.term_lists.specs.Rings.{variables}
 use Rattle.term_lists.specs.Vectors.{sums_of}
-use Rattle.ideal_ops.specs.Runs.{AreVectorsFor}
+use Rattle.syzygy_engine.specs.Runs.{AreVectorsFor}
 use Rattle.ideal_ops.proofs.Multiplied.{vectors_after}
 use Rattle.ideal_ops.proofs.saturating.with_inverses.Goals as goal
 

@@ -2,8 +2,8 @@ use Rattle.std.proofs.Common.{[], arith, subst, subst₂, sym, ◌≡◌}
 use Rattle.operation_laws.specs.Operations.{blocks}
 use Rattle.term_lists.specs.Rings.{variables}
 use Rattle.term_lists.specs.Vectors.{sums_of}
-use Rattle.ideal_ops.specs.Runs.{AreVectorsFor}
-use Rattle.ideal_ops.proofs.Shared.{vectors_none}
+use Rattle.syzygy_engine.specs.Runs.{AreVectorsFor}
+use Rattle.syzygy_engine.proofs.VectorLists.{vectors_none}
 use Rattle.ideal_ops.proofs.Stacked.{blocks_step}
 use Rattle.ideal_ops.proofs.stacking.block_list.Goals as goal
 

@@ -1,7 +1,7 @@
 use Rattle.operation_laws.specs.Operations.{blocks}
 use Rattle.term_lists.specs.Rings.{variables}
 use Rattle.term_lists.specs.Vectors.{sums_of}
-use Rattle.ideal_ops.specs.Runs.{AreVectorsFor}
+use Rattle.syzygy_engine.specs.Runs.{AreVectorsFor}
 use Rattle.ideal_ops.proofs.stacking.block_list.Given as goal
 
 abbrev pub invariant-loop-j : goal.invariant-loop-j

@@ -7,7 +7,7 @@ use Rattle.syzygy_laws.specs.Syzygies.{raised}
 use Rattle.term_lists.specs.Rings.{variables}
 use Rattle.term_lists.specs.Vectors.{AreTermsOver, HasPositions, sums_of}
 use Rattle.term_lists.proofs.Scaling.{Each_at}
-use Rattle.ideal_ops.specs.Runs.{AreVectorsFor}
+use Rattle.syzygy_engine.specs.Runs.{AreVectorsFor}
 use Rattle.ideal_ops.proofs.stacking.push_block.Goals as goal
 
 pub loop-v-preserved : goal.loop-v-preserved

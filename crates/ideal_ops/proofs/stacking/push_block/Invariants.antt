@@ -3,7 +3,7 @@ use Rattle.formal_sums.specs.FormalSums.{FormalSum}
 use Rattle.syzygy_laws.specs.Syzygies.{raised}
 use Rattle.term_lists.specs.Rings.{variables}
 use Rattle.term_lists.specs.Vectors.{sums_of}
-use Rattle.ideal_ops.specs.Runs.{AreVectorsFor}
+use Rattle.syzygy_engine.specs.Runs.{AreVectorsFor}
 use Rattle.ideal_ops.proofs.stacking.push_block.Given as goal
 
 abbrev pub invariant-loop-v : goal.invariant-loop-v

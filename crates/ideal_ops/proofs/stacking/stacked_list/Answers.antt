@@ -2,8 +2,8 @@ use Rattle.std.proofs.Common.{[], ap, subst, sym, ◌++◌, ◌∙◌, ◌∷◌
 use Rattle.operation_laws.specs.Operations.{stacked}
 use Rattle.term_lists.specs.Rings.{variables}
 use Rattle.term_lists.specs.Vectors.{sums_of}
-use Rattle.ideal_ops.specs.Runs.{AreVectorsFor}
-use Rattle.ideal_ops.proofs.Shared.{vectors_next, vectors_none}
+use Rattle.syzygy_engine.specs.Runs.{AreVectorsFor}
+use Rattle.syzygy_engine.proofs.VectorLists.{vectors_next, vectors_none}
 use Rattle.ideal_ops.proofs.stacking.stacked_list.Goals as goal
 
 pub returns : goal.returns

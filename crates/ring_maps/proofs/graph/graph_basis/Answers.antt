@@ -1,7 +1,7 @@
 use Rattle.std.proofs.Common.{refl}
 use Rattle.groebner_iface.specs.Calls.{NoTrail}
 use Rattle.groebner_iface.proofs.CallingRuns.{run_stops}
-use Rattle.ideal_ops.proofs.Shared.{loose_list}
+use Rattle.syzygy_engine.proofs.Marks.{loose_list}
 use Rattle.ring_maps.specs.Graphs.{IsGraphRun}
 use Rattle.ring_maps.proofs.Listing.{graph_positions}
 use Rattle.ring_maps.proofs.graph.graph_basis.Goals as goal

@@ -1,4 +1,6 @@
+use Rattle.syzygy_engine.specs.Runs.{AreVectorsFor}
 use Rattle.syzygy_engine.proofs.Standing.{Terms}
+use Rattle.syzygy_engine.proofs.VectorLists.{vectors_none}
 use Rattle.std.proofs.Common.{[], ap, arith, get_or, length, subst, sym, ◌+◌, ◌<◌, ◌∙◌, ◌≡◌, ◌≤◌, List}
 use Rattle.std.proofs.lemmas.List.{get_or_default}
 use Rattle.operation_laws.proofs.Linear.{Each_at}
@@ -6,8 +8,6 @@ use Rattle.operation_laws.specs.Operations.{listed}
 use Rattle.map_laws.specs.Graphs.{graph_member}
 use Rattle.term_lists.specs.Rings.{variables}
 use Rattle.term_lists.specs.Vectors.{AreTermsOver, sums_of}
-use Rattle.ideal_ops.specs.Runs.{AreVectorsFor}
-use Rattle.ideal_ops.proofs.Shared.{vectors_none}
 use Rattle.ring_maps.proofs.Listing.{member_next}
 use Rattle.ring_maps.proofs.graph.graph_vectors.Goals as goal
 

@@ -3,7 +3,7 @@ use Rattle.operation_laws.specs.Operations.{listed}
 use Rattle.map_laws.specs.Graphs.{graph_member}
 use Rattle.term_lists.specs.Rings.{variables}
 use Rattle.term_lists.specs.Vectors.{sums_of}
-use Rattle.ideal_ops.specs.Runs.{AreVectorsFor}
+use Rattle.syzygy_engine.specs.Runs.{AreVectorsFor}
 use Rattle.ring_maps.proofs.graph.graph_vectors.Given as goal
 
 abbrev pub invariant-loop-i : goal.invariant-loop-i

@@ -1,3 +1,4 @@
+use Rattle.syzygy_engine.specs.Runs.{AreVectorsFor}
 use Rattle.syzygy_engine.proofs.Standing.{Terms}
 use Rattle.std.proofs.Common.{append-nil, map, subst, sym, take, ◌++◌, ◌+◌, ◌∙◌, List}
 use Rattle.std.proofs.lemmas.List.{take_all}
@@ -6,7 +7,6 @@ use Rattle.map_laws.specs.Graphs.{in_first}
 use Rattle.term_lists.proofs.Scaling.{Each_at}
 use Rattle.term_lists.specs.Rings.{variables}
 use Rattle.term_lists.specs.Vectors.{AreTermsOver, sums_of}
-use Rattle.ideal_ops.specs.Runs.{AreVectorsFor}
 use Rattle.ring_maps.proofs.Listing.{first_next}
 use Rattle.ring_maps.proofs.graph.push_members.Goals as goal
 

@@ -3,7 +3,7 @@ use Rattle.formal_sums.specs.FormalSums.{FormalSum}
 use Rattle.map_laws.specs.Graphs.{in_first}
 use Rattle.term_lists.specs.Rings.{variables}
 use Rattle.term_lists.specs.Vectors.{sums_of}
-use Rattle.ideal_ops.specs.Runs.{AreVectorsFor}
+use Rattle.syzygy_engine.specs.Runs.{AreVectorsFor}
 use Rattle.ring_maps.proofs.graph.push_members.Given as goal
 
 abbrev pub invariant-loop-v : goal.invariant-loop-v

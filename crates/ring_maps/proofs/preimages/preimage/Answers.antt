@@ -1,7 +1,9 @@
 use Rattle.std.proofs.Common.{inl, inr, refl}
 use Rattle.groebner_iface.specs.Calls.{NoTrail}
 use Rattle.groebner_iface.proofs.CallingRuns.{more_stops, run_stops}
-use Rattle.ideal_ops.proofs.Shared.{later_stops, loose_list, run_more}
+use Rattle.syzygy_engine.proofs.Marks.{loose_list}
+use Rattle.syzygy_engine.proofs.RunAnswers.{later_stops}
+use Rattle.ideal_ops.proofs.Shared.{run_more}
 use Rattle.ring_maps.specs.Graphs.{ArePreimageRuns, IsGraphRun}
 use Rattle.ring_maps.proofs.GraphBases.{basis_of_preimage, member_positions, members_itself}
 use Rattle.ring_maps.proofs.preimages.preimage.Goals as goal

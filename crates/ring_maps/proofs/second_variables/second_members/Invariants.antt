@@ -2,8 +2,8 @@ use Rattle.std.proofs.Common.{List, ◌++◌, ◌≡◌}
 use Rattle.map_laws.specs.Graphs.{of_second}
 use Rattle.term_lists.specs.Rings.{variables}
 use Rattle.term_lists.specs.Vectors.{sums_of}
+use Rattle.syzygy_engine.specs.Runs.{AreVectorsFor}
 use Rattle.syzygy_engine.proofs.Standing.{Terms}
-use Rattle.ideal_ops.specs.Runs.{AreVectorsFor}
 use Rattle.ring_maps.proofs.second_variables.second_members.Given as goal
 
 abbrev pub invariant-loop-v : goal.invariant-loop-v

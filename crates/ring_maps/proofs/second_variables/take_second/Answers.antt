@@ -1,12 +1,13 @@
+use Rattle.syzygy_engine.specs.Runs.{AreVectorsFor}
 use Rattle.syzygy_engine.proofs.Standing.{Terms}
+use Rattle.syzygy_engine.proofs.VectorLists.{vectors_next}
 use Rattle.std.proofs.Common.{false, subst, subst₂, sym, true, ◌∙◌, ◌≡◌, List}
 use Rattle.division_laws.specs.Elimination.{has_none_of_first}
 use Rattle.syzygy_laws.specs.Kernels.{all_kept}
 use Rattle.map_laws.specs.Graphs.{from_second, of_second}
 use Rattle.term_lists.specs.Rings.{variables}
 use Rattle.term_lists.specs.Vectors.{sum_of}
-use Rattle.ideal_ops.specs.Runs.{AreVectorsFor}
-use Rattle.ideal_ops.proofs.Shared.{of_terms, vectors_next}
+use Rattle.ideal_ops.proofs.Shared.{of_terms}
 use Rattle.ring_maps.proofs.SecondTerms.{second_kept, second_left}
 use Rattle.ring_maps.proofs.second_variables.take_second.Goals as goal
 

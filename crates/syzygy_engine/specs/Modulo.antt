@@ -7,7 +7,7 @@ use Rattle.term_lists.specs.Rings.{variables}
 use Rattle.term_lists.specs.Vectors.{sums_of}
 use Rattle.term_lists.specs.declared.ring.Ring.{Ring}
 use Rattle.syzygy_engine.specs.Marking.{position_ring}
-use Rattle.ideal_ops.specs.Runs.{AreTwoRuns, AreVectorsFor, IsRunFor, OfRuns}
+use Rattle.syzygy_engine.specs.Runs.{AreTwoRuns, AreVectorsFor, IsRunFor, OfRuns}
 
 -- the runs on X, vectors of rank q, with a mark each, and Y, without: position over term, and in the ring's own order on
 -- what vanishes before the marks

@@ -8,13 +8,14 @@ ghost use Rattle.term_lists.specs.Vectors.{AreVectorsOver, HasPositions, sums_of
 ghost use Rattle.risen_counts.specs.Counts.{RoseAtMost};
 ghost use Rattle.groebner_iface.specs.Calls.{CallStops, NoTrail};
 ghost use Rattle.groebner_iface.specs.Runs.{IsReducedBasisOf};
+ghost use Rattle.syzygy_engine.specs.Answers.{IsBasisOfThose};
 ghost use Rattle.syzygy_engine.specs.Kernels.{runs_in_order};
 ghost use Rattle.syzygy_engine.specs.Marking.{position_ring};
-ghost use Rattle.ideal_ops.specs.Answers.{IsBasisOfThose};
-ghost use Rattle.ideal_ops.specs.Modulo.{AreModuloRuns};
-ghost use Rattle.ideal_ops.specs.Runs.{AreVectorsFor, IsRunFor};
+ghost use Rattle.syzygy_engine.specs.Modulo.{AreModuloRuns};
+ghost use Rattle.syzygy_engine.specs.Runs.{AreVectorsFor, IsRunFor};
 
-use crate::multiplying::followed;
+use crate::lowering::kernel_part;
+use crate::marking::{first_mark, marked_list};
 use groebner_iface::{Groebner, OpStop};
 use module_vectors::{NoMemory, Ring, VectList, lawful_setting};
 use monomial_orders::ModOrder;
@@ -22,7 +23,16 @@ use risen_counts::counted_times;
 use std::alloc::Global;
 use std::sync::Wait;
 use std::thread::Threads;
-use syzygy_engine::{first_mark, kernel_part, marked_list};
+
+/// The vectors of the one list and then those of the other. They are moved.
+pub fn followed(list: VectList, more: VectList) -> Result<VectList, NoMemory>
+    ensures { IfOk result (λ all. all ≡ list ++ more) }
+{
+    let mut all = list.into_vec();
+    let mut rest = more.into_vec();
+    all.append(&mut rest)?;
+    Ok(VectList::from_vec(all))
+}
 
 // The heads, each with a mark of its own, and behind them the members, without one. The members are moved.
 fn heads_marked(

@@ -7,9 +7,9 @@ use Rattle.groebner_iface.specs.Calls.{NoTrail}
 use Rattle.groebner_iface.specs.Runs.{IsReducedBasisOf}
 use Rattle.groebner_iface.proofs.CallingRuns.{run_stops}
 use Rattle.syzygy_engine.specs.Marking.{position_ring}
-use Rattle.ideal_ops.specs.Runs.{AreVectorsFor, IsRunFor}
-use Rattle.ideal_ops.proofs.ModuloRuns.{list_positions}
-use Rattle.ideal_ops.proofs.modulo.modulo_basis.Goals as goal
+use Rattle.syzygy_engine.specs.Runs.{AreVectorsFor, IsRunFor}
+use Rattle.syzygy_engine.proofs.ModuloRuns.{list_positions}
+use Rattle.syzygy_engine.proofs.modulo.modulo_basis.Goals as goal
 
 pub first_mark-requires : goal.first_mark-requires
 first_mark-requires g c = c.requires.room

@@ -29,15 +29,15 @@ use Rattle.term_lists.specs.Vectors.{AreVectorsOver, HasPositions, sum_of, sums_
 use Rattle.term_lists.specs.declared.ring.Ring.{Ring}
 use Rattle.vector_division.proofs.Members.{sums_at}
 use Rattle.groebner_iface.specs.Runs.{IsReducedBasisOf}
+use Rattle.syzygy_engine.specs.Answers.{IsBasisOfThose}
 use Rattle.syzygy_engine.specs.Marking.{AreMarked, StandOneByOne, position_ring, position_setting}
+use Rattle.syzygy_engine.specs.Modulo.{AreModuloRuns}
+use Rattle.syzygy_engine.specs.Runs.{AreVectorsFor}
 use Rattle.syzygy_engine.proofs.Generated.{lawful_at}
 use Rattle.syzygy_engine.proofs.Marks.{lawful_by_position}
-use Rattle.syzygy_engine.proofs.Standing.{Terms, ranks_of_positions, stand_basis, stand_module}
-use Rattle.ideal_ops.specs.Answers.{IsBasisOfThose}
-use Rattle.ideal_ops.specs.Modulo.{AreModuloRuns}
-use Rattle.ideal_ops.specs.Runs.{AreVectorsFor}
-use Rattle.ideal_ops.proofs.Dividing.{stand_both, stand_itself}
-use Rattle.ideal_ops.proofs.Shared.{members_of_run, own_basis, positions_for}
+use Rattle.syzygy_engine.proofs.RunAnswers.{members_of_run, own_basis}
+use Rattle.syzygy_engine.proofs.Standing.{Terms, ranks_of_positions, stand_basis, stand_both, stand_itself, stand_module}
+use Rattle.syzygy_engine.proofs.VectorLists.{positions_for}
 
 -- ---- lists that are the same one by one
 abbrev AreSame : {n : ℕ} → ℕ → List (FormalSum n) → List (FormalSum n) → Type 0

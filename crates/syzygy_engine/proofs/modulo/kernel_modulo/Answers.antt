@@ -9,12 +9,13 @@ use Rattle.groebner_iface.specs.Calls.{NoTrail}
 use Rattle.groebner_iface.specs.Runs.{IsReducedBasisOf}
 use Rattle.groebner_iface.proofs.CallingRuns.{more_stops, run_stops}
 use Rattle.syzygy_engine.specs.Marking.{position_ring}
+use Rattle.syzygy_engine.specs.Modulo.{AreModuloRuns}
+use Rattle.syzygy_engine.specs.Runs.{AreVectorsFor, IsRunFor}
 use Rattle.syzygy_engine.proofs.Counted.{one_run, one_run_more}
-use Rattle.ideal_ops.specs.Modulo.{AreModuloRuns}
-use Rattle.ideal_ops.specs.Runs.{AreVectorsFor, IsRunFor}
-use Rattle.ideal_ops.proofs.ModuloRuns.{kernel_again, kernel_at_one, kernel_by_position, kernel_low}
-use Rattle.ideal_ops.proofs.Shared.{later_stops, loose_list}
-use Rattle.ideal_ops.proofs.modulo.kernel_modulo.Goals as goal
+use Rattle.syzygy_engine.proofs.Marks.{loose_list}
+use Rattle.syzygy_engine.proofs.ModuloRuns.{kernel_again, kernel_at_one, kernel_by_position, kernel_low}
+use Rattle.syzygy_engine.proofs.RunAnswers.{later_stops}
+use Rattle.syzygy_engine.proofs.modulo.kernel_modulo.Goals as goal
 
 pub first_mark-requires : goal.first_mark-requires
 first_mark-requires g c = c.requires.room

@@ -1,5 +1,5 @@
-use Rattle.ideal_ops.proofs.ModuloRuns.{heads_list}
-use Rattle.ideal_ops.proofs.modulo.heads_marked.Goals as goal
+use Rattle.syzygy_engine.proofs.ModuloRuns.{heads_list}
+use Rattle.syzygy_engine.proofs.modulo.heads_marked.Goals as goal
 
 pub returns : goal.returns
 returns c =
