@@ -7,3 +7,4 @@ pub mod JobParts
 pub mod MadeRows
 pub mod Outcomes
 pub mod Unranked
+pub mod NeededPairs

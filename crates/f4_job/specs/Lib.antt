@@ -1,3 +1,4 @@
 pub mod Flags
 pub mod Solved
 pub mod Made
+pub mod Tails

@@ -73,8 +73,9 @@ fn solve_matrix<R: Threads + Sync>(
 }
 
 /// Solves a job by the echelon form of its matrix: the rows with new leads become the outcome's rows, each with the
-/// products of which it is a combination (Faugère 1999, section 2). Where a product of the matrix has a degree above
-/// 65,535, the job is solved by plain division, which may need no such product.
+/// products of which it is a combination (Faugère 1999, section 2). The matrix is that of the pairs of which a member has a
+/// second term: the S-vectors of the others are zero. Where a product of it has a degree above 65,535, the job is solved by
+/// plain division, which may need no such product.
 ///
 /// So many helpers, one at least, bring the matrix into echelon form together: in each pass each claims the free columns and then the
 /// lead columns of its share of the rows, passes the gate with its own number at `RowClaimed`, and reduces the rows whose column

@@ -8,5 +8,6 @@ mod making;
 mod ranking;
 mod solving;
 mod stop;
+mod tails;
 
 pub use job::solve;
