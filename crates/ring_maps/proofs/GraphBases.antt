@@ -1,5 +1,5 @@
 -- What the reduced basis of a graph shows: preimages, and polynomials as images (IVA chapter 3, section 3 and chapter 7, section 3)
-use Rattle.std.proofs.Common.{Bool, List, [], ap, append-nil, ap₂, arith, false, get_or, refl, subst, sym, true, true≢false, ℕ, ◌*◌, ◌++◌, ◌+◌, ◌-◌, ◌<◌, ◌∙◌, ◌∷◌, ◌≡◌}
+use Rattle.std.proofs.Common.{Bool, List, [], ap, append-nil, ap₂, arith, false, get_or, length, refl, subst, sym, true, true≢false, ℕ, ◌*◌, ◌++◌, ◌+◌, ◌-◌, ◌<◌, ◌∙◌, ◌∷◌, ◌≡◌}
 use Rattle.std.proofs.lemmas.List.{length-map}
 use Rattle.std.specs.Prelude.{◌&&◌}
 use Rattle.residues.proofs.Congruences.{IsCongruent_of, IsCongruent_trans}
@@ -13,6 +13,8 @@ use Rattle.formal_sums.proofs.TakenAway.{taken_away}
 use Rattle.formal_sums.proofs.WeightedSums.{indicator_other}
 use Rattle.formal_sums.specs.Combinations.{IsMember, IsSameModule, combination}
 use Rattle.formal_sums.specs.FormalSums.{Each, FormalSum, HasRank, IsOfRank, IsSame, Key, coefficient, indicator, scale}
+use Rattle.orders.specs.KeyOrders.{top}
+use Rattle.orders.specs.WeightedOrders.{weighted_elimination}
 use Rattle.bases.proofs.Leading.{positive}
 use Rattle.bases.specs.Bases.{IsReducedBasis}
 use Rattle.bases.specs.Settings.{IsLawful, Setting}
@@ -50,9 +52,12 @@ use Rattle.ideal_ops.proofs.GradedOrders.{graded_lawful, graded_setting, in_own_
 use Rattle.ideal_ops.specs.Products.{WorkStops}
 use Rattle.ring_maps.specs.Graphs.{IsExpressionTrail}
 use Rattle.remainders.specs.Remainders.{IsRemainderOf}
-use Rattle.ring_maps.specs.GraphSteps.{IsGraphBasis}
+use Rattle.ring_maps.specs.GraphRings.{IsGraphRing}
+use Rattle.ring_maps.specs.Multiples.{AreMultiples}
+use Rattle.ring_maps.specs.GraphSteps.{IsBasisOfGraph, IsGraphBasis}
 use Rattle.ring_maps.specs.Maps.{HasImage, IsExpression, IsInPreimage, grevlex_setting}
-use Rattle.ring_maps.proofs.Doubled.{doubled_count, doubled_modulus, doubled_setting}
+use Rattle.ring_maps.proofs.AlikeOrders.{basis_alike, multiple_alike}
+use Rattle.ring_maps.proofs.GraphRings.{doubled_graph, graph_count, graph_modulus, graph_setting}
 
 -- ---- kept keys
 -- where the terms are kept, the other keys have no coefficient
@@ -81,38 +86,59 @@ swapped : {n p : ℕ} (v w : FormalSum n) → IsSame p (v ++ w) (w ++ v)
 swapped {n} {p} v w =
     IsSame_trans (IsSame_past v w w [] (IsSame_of p _ _ (sym (append-nil w)))) (IsSame_of p _ _ (ap (λ z. w ++ z) (append-nil v)))
 
-module _ (ring graph : Ring) (images list basis : List Terms) (h : IsGraphBasis ring images list graph basis)
+-- a run over the ring that is doubled gives such a basis
+pub of_doubled : (ring graph : Ring) (images list basis : List Terms) → IsGraphBasis ring images list graph basis → IsBasisOfGraph ring images list graph basis
+of_doubled ring graph images list basis h = record { listed = h.listed; ring_of = doubled_graph ring graph h.run.doubled; vectors = h.run.vectors; reduced = h.reduced }
+
+module _ (ring graph : Ring) (images list basis : List Terms) (h : IsBasisOfGraph ring images list graph basis)
     (lawful : (rank : ℕ) → IsLawful (setting ring (variables ring) (ring_comparison ring (variables ring)) rank))
     (f : Each (HasPositions 1) images) (l : Each (HasPositions 1) list) where
   abbrev S : Setting (variables ring)
   S = setting ring (variables ring) (ring_comparison ring (variables ring)) 1
 
   abbrev T : Setting (variables graph)
-  T = elimination_setting (ring.weights ++ ring.weights) (variables graph) (variables ring) (setting ring (variables ring) (ring_comparison ring (variables ring)) 1)
+  T = elimination_setting graph.weights (variables graph) (variables ring) (setting ring (variables ring) (ring_comparison ring (variables ring)) 1)
+
+  -- with the ring's weights twice
+  abbrev D : Setting (variables graph)
+  D = elimination_setting (ring.weights ++ ring.weights) (variables graph) (variables ring) (setting ring (variables ring) (ring_comparison ring (variables ring)) 1)
 
   abbrev I : List (FormalSum (variables graph))
   I = graph_list ring.modulus.value (variables graph) (sums_of (variables ring) images) (sums_of (variables ring) list)
 
   two : variables graph ≡ variables ring + variables ring
-  two = doubled_count ring graph h.run.doubled
+  two = graph_count ring graph h.ring_of
 
   lawful_T : IsLawful T
-  lawful_T = lawful_elimination (ring.weights ++ ring.weights) (variables graph) (variables ring) S (lawful 1)
+  lawful_T = lawful_elimination graph.weights (variables graph) (variables ring) S (lawful 1)
 
   same : IsSameModule ring.modulus.value (sums_of (variables graph) h.listed) I
-  same = subst (λ p. IsSameModule p (sums_of (variables graph) h.listed) I) (doubled_modulus ring graph h.run.doubled) (stand_module graph h.listed I h.run.vectors.stand)
+  same = subst (λ p. IsSameModule p (sums_of (variables graph) h.listed) I) (graph_modulus ring graph h.ring_of) (stand_module graph h.listed I h.vectors.stand)
 
   -- it is that of the graph, as a list of formal sums
   pub is_graph : IsReducedBasis T I (sums_of (variables graph) basis)
   is_graph =
       IsReducedBasis_same T lawful_T (sums_of (variables graph) h.listed) I (sums_of (variables graph) basis) same
-      (subst (λ U. IsReducedBasis U (sums_of (variables graph) h.listed) (sums_of (variables graph) basis)) (doubled_setting ring graph 1 S h.run.doubled refl refl) h.reduced.basis)
+      (subst (λ U. IsReducedBasis U (sums_of (variables graph) h.listed) (sums_of (variables graph) basis)) (graph_setting ring graph 1 S h.ring_of refl refl) h.reduced.basis)
+
+  -- where its weights behind are those of the ring, or a multiple of them, it is so by the ring's weights twice
+  pub by_same_weights : graph.weights ≡ ring.weights ++ ring.weights → IsReducedBasis D I (sums_of (variables graph) basis)
+  by_same_weights e = subst (λ w. IsReducedBasis (elimination_setting w (variables graph) (variables ring) S) I (sums_of (variables graph) basis)) e is_graph
+
+  pub by_multiples :
+      (vs : List ℕ) → graph.weights ≡ ring.weights ++ vs → length vs ≡ variables ring → AreMultiples ring.weights vs
+      → IsReducedBasis D I (sums_of (variables graph) basis)
+  by_multiples vs e count h =
+      let n = variables ring in
+      basis_alike ring.modulus.value 1 (ring.weights ++ vs) (ring.weights ++ ring.weights) (top (weighted_elimination (ring.weights ++ vs) n))
+      (top (weighted_elimination (ring.weights ++ ring.weights) n)) (λ k l. multiple_alike n ring.weights vs k l ring.weighted count two h) I (sums_of (variables graph) basis)
+      (subst (λ w. IsReducedBasis (elimination_setting w (variables graph) n S) I (sums_of (variables graph) basis)) e is_graph)
 
   second_ranks : Each (HasRank 1) (of_second (variables ring) (sums_of (variables graph) basis))
   second_ranks =
       let n = variables ring in
-      second_rank S (ring.weights ++ ring.weights) I (sums_of (variables graph) basis) (lawful 1) two
-      (graph_run S (ring.weights ++ ring.weights) (sums_of n images) (lawful 1) refl two (ranks_of_positions n 1 images f) (sums_of n list) (sums_of (variables graph) basis)
+      second_rank S graph.weights I (sums_of (variables graph) basis) (lawful 1) two
+      (graph_run S graph.weights (sums_of n images) (lawful 1) refl two (ranks_of_positions n 1 images f) (sums_of n list) (sums_of (variables graph) basis)
       (ranks_of_positions n 1 list l) is_graph)
 
   -- ---- preimages
@@ -121,9 +147,9 @@ module _ (ring graph : Ring) (images list basis : List Terms) (h : IsGraphBasis 
 
   -- where the ring's own order compares them as the graph's does, they are the reduced basis of their module
   pub members_itself :
-      IsGrevlex ring 1 → (members : List Terms) → AreVectorsFor ring (of_second (variables ring) (sums_of (variables graph) basis)) members
+      IsReducedBasis D I (sums_of (variables graph) basis) → IsGrevlex ring 1 → (members : List Terms) → AreVectorsFor ring (of_second (variables ring) (sums_of (variables graph) basis)) members
       → IsReducedBasisOf ring 1 members members
-  members_itself graded members stand =
+  members_itself doubled graded members stand =
       let n = variables ring in
       let G = sums_of (variables graph) basis in
       let K = graded_setting ring 1 in
@@ -131,7 +157,7 @@ module _ (ring graph : Ring) (images list basis : List Terms) (h : IsGraphBasis 
       stand_basis ring 1 members (of_second n G) (lawful 1) stand.vectors stand.stand (member_positions members stand)
       (in_own_order ring 1 (lawful 1) graded (of_second n G) second_ranks
       (second_reduced K ring.weights ok two refl ring.weighted I G
-      (graph_run K (ring.weights ++ ring.weights) (sums_of n images) ok refl two (ranks_of_positions n 1 images f) (sums_of n list) G (ranks_of_positions n 1 list l) is_graph)))
+      (graph_run K (ring.weights ++ ring.weights) (sums_of n images) ok refl two (ranks_of_positions n 1 images f) (sums_of n list) G (ranks_of_positions n 1 list l) doubled)))
 
   pub basis_of_preimage :
       (members answer : List Terms) → AreVectorsFor ring (of_second (variables ring) (sums_of (variables graph) basis)) members → IsReducedBasisOf ring 1 members answer
@@ -148,7 +174,7 @@ module _ (ring graph : Ring) (images list basis : List Terms) (h : IsGraphBasis 
           basis = run_itself S (lawful 1) M R (run_of S (lawful 1) M R (ranks_of_positions n 1 members (member_positions members stand)) run.basis);
         };
         members = λ v.
-            preimage_law S (ring.weights ++ ring.weights) (sums_of n images) (lawful 1) refl two (ranks_of_positions n 1 images f) (sums_of n list) R G v
+            preimage_law S graph.weights (sums_of n images) (lawful 1) refl two (ranks_of_positions n 1 images f) (sums_of n list) R G v
             (ranks_of_positions n 1 list l) is_graph (IsReducedBasis_same S (lawful 1) M (of_second n G) R (stand_module ring members (of_second n G) stand.stand) run.basis);
       }
 
@@ -177,23 +203,26 @@ module _ (ring graph : Ring) (images basis : List Terms) (h : IsGraphBasis ring 
   abbrev w : FormalSum (variables graph)
   w = sum_of (variables graph) rest
 
+  ring_of : IsGraphRing ring graph
+  ring_of = doubled_graph ring graph h.run.doubled
+
   twice : variables graph ≡ variables ring + variables ring
-  twice = doubled_count ring graph h.run.doubled
+  twice = graph_count ring graph ring_of
 
   modulus : graph.modulus.value ≡ ring.modulus.value
-  modulus = doubled_modulus ring graph h.run.doubled
+  modulus = graph_modulus ring graph ring_of
 
   f_ranks : Each (HasRank 1) F
   f_ranks = ranks_of_positions (variables ring) 1 images f
 
   of_graph : IsReducedBasis T' (graph_list ring.modulus.value (variables graph) F []) G
-  of_graph = is_graph ring graph images [] basis h lawful f tt
+  of_graph = by_same_weights ring graph images [] basis (of_doubled ring graph images [] basis h) lawful f tt h.run.doubled.weights
 
   pos : 0 < ring.modulus.value
   pos = positive S' (lawful 1)
 
   lawful_graph : IsLawful (setting graph (variables graph) (ring_comparison graph (variables graph)) 1)
-  lawful_graph = subst IsLawful (sym (doubled_setting ring graph 1 S' h.run.doubled refl refl)) (lawful_elimination ws (variables graph) (variables ring) S' (lawful 1))
+  lawful_graph = subst IsLawful (sym (graph_setting ring graph 1 S' ring_of refl refl)) (lawful_elimination graph.weights (variables graph) (variables ring) S' (lawful 1))
 
   -- ---- the remainder
   divided : IsSame ring.modulus.value v (combination G hd.cofactors ++ w)

@@ -1,5 +1,6 @@
-mod Doubled
+mod GraphRings
 mod FirstTerms
 mod Listing
 mod SecondTerms
+mod AlikeOrders
 mod GraphBases

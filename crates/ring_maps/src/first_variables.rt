@@ -3,16 +3,17 @@ ghost use Rattle.std.specs.Prelude.{◌≡◌, ◌<◌, ◌≤◌, ◌++◌, IfO
 ghost use Rattle.monomials.specs.Exponents.{exponents_of, unit};
 ghost use Rattle.formal_sums.specs.FormalSums.{scale};
 ghost use Rattle.map_laws.specs.Graphs.{fitted, in_first};
-ghost use Rattle.term_lists.specs.Doubling.{IsDoubled};
 ghost use Rattle.term_lists.specs.Rings.{ring_comparison, variables};
 ghost use Rattle.term_lists.specs.Vectors.{AreTermsOver, IsMonomialOver, IsVectorOver, StandsFor, sum_of};
+ghost use Rattle.ring_maps.specs.GraphRings.{IsGraphRing};
 
 use module_vectors::{Key, NoMemory, Ring, Vect};
 use monomial_orders::Mono;
 use std::alloc::Global;
 
-/// The monomial of the ring with these exponents. Between the ring and that of a graph a monomial of a vector keeps its
-/// degree, which it has had before: so none is too great, and what can be wanting is memory.
+/// The monomial of the ring with these exponents. From the ring to that of a graph a monomial of a vector keeps its degree, and
+/// on the way back, from the second variables, it has no greater one, since none of these has less weight than the variable for
+/// which it stands: so no degree is too great, and what can be wanting is memory.
 pub(crate) fn monomial_of(alloc: Global, ring: &Ring, exponents: &[u16]) -> Result<Mono, NoMemory>
     requires { length exponents.now ≡ variables ring.now }
     ensures exponents { IfOk result (λ m. m.exponents ≡ exponents.now) }
@@ -38,7 +39,7 @@ fn with_zeros(alloc: Global, exponents: &[u16], count: usize) -> Result<Vec<u16>
 
 // The monomial in the first variables of the graph.
 fn first_monomial(alloc: Global, _ring: &Ring, graph: &Ring, m: &Mono) -> Result<Mono, NoMemory>
-    requires graph { IsDoubled _ring.now graph.now }
+    requires graph { IsGraphRing _ring.now graph.now }
     requires monomial { IsMonomialOver _ring.now m.now }
     ensures over { IfOk result (IsMonomialOver graph.now) }
     ensures fitted { let n = variables _ring.now in let k = variables graph.now in
@@ -57,7 +58,7 @@ pub(crate) fn push_first(
     terms: &[(Key, u32)],
     more: &mut Vec<(Key, u32)>,
 ) -> Result<(), NoMemory>
-    requires graph { IsDoubled ring.now graph.now }
+    requires graph { IsGraphRing ring.now graph.now }
     requires factor { c < ring.now.modulus.value }
     requires terms { AreTermsOver ring.now terms.now }
     requires more { AreTermsOver graph.now more.old.items }
@@ -81,7 +82,7 @@ pub(crate) fn first_vector(
     graph: &Ring,
     v: &Vect,
 ) -> Result<Vect, NoMemory>
-    requires graph { IsDoubled ring.now graph.now }
+    requires graph { IsGraphRing ring.now graph.now }
     requires terms { AreTermsOver ring.now v.now }
     ensures vector { IfOk result (IsVectorOver graph.now (ring_comparison graph.now)) }
     ensures stands { let n = variables ring.now in let m = variables graph.now in

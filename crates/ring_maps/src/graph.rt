@@ -4,12 +4,12 @@ ghost use Rattle.monomials.specs.Exponents.{exponents_of, unit};
 ghost use Rattle.formal_sums.specs.FormalSums.{Each, FormalSum, scale};
 ghost use Rattle.operation_laws.specs.Operations.{listed};
 ghost use Rattle.map_laws.specs.Graphs.{behind, graph_list, graph_member, in_first, variable_monomial};
-ghost use Rattle.term_lists.specs.Doubling.{IsDoubled};
 ghost use Rattle.term_lists.specs.Rings.{ring_comparison, variables};
 ghost use Rattle.term_lists.specs.Vectors.{AreTermsOver, AreVectorsOver, HasPositions, IsMonomialOver, IsVectorOver, StandsFor, sum_of, sums_of};
 ghost use Rattle.risen_counts.specs.Counts.{RoseAtMost};
 ghost use Rattle.groebner_iface.specs.Calls.{CallStops, NoTrail};
 ghost use Rattle.syzygy_engine.specs.Runs.{AreVectorsFor};
+ghost use Rattle.ring_maps.specs.GraphRings.{IsGraphRing};
 ghost use Rattle.ring_maps.specs.Graphs.{IsGraphRun};
 ghost use Rattle.ring_maps.specs.GraphSteps.{IsGraphBasis};
 
@@ -24,7 +24,7 @@ use std::thread::Threads;
 
 // The second variable y_i, which stands for the one with this index.
 fn second_variable(alloc: Global, ring: &Ring, graph: &Ring, i: usize) -> Result<Mono, NoMemory>
-    requires graph { IsDoubled ring.now graph.now }
+    requires graph { IsGraphRing ring.now graph.now }
     requires index { i < variables ring.now }
     ensures over { IfOk result (IsMonomialOver graph.now) }
     ensures behind { let n = variables ring.now in let m = variables graph.now in
@@ -42,7 +42,7 @@ fn push_variable(
     i: usize,
     terms: &mut Vec<(Key, u32)>,
 ) -> Result<(), NoMemory>
-    requires graph { IsDoubled ring.now graph.now }
+    requires graph { IsGraphRing ring.now graph.now }
     requires index { i < variables ring.now }
     requires terms { AreTermsOver graph.now terms.old.items }
     ensures over { OnOk result (AreTermsOver graph.now terms.new.items) }
@@ -84,7 +84,7 @@ fn graph_vector(
     i: usize,
     f: &Vect,
 ) -> Result<Vect, NoMemory>
-    requires graph { IsDoubled ring.now graph.now }
+    requires graph { IsGraphRing ring.now graph.now }
     requires index { i < variables ring.now }
     requires terms { AreTermsOver ring.now f.now }
     ensures vector { IfOk result (IsVectorOver graph.now (ring_comparison graph.now)) }
@@ -109,7 +109,7 @@ fn graph_vectors(
     images: &VectList,
     room: usize,
 ) -> Result<Vec<Vect>, NoMemory>
-    requires graph { IsDoubled ring.now graph.now }
+    requires graph { IsGraphRing ring.now graph.now }
     requires images { Each (AreTermsOver ring.now) images.now }
     requires count { length images.now ≡ variables ring.now }
     ensures { let n = variables ring.now in let m = variables graph.now in IfOk result
@@ -130,7 +130,7 @@ fn push_members(
     list: &VectList,
     vectors: &mut Vec<Vect>,
 ) -> Result<(), NoMemory>
-    requires graph { IsDoubled ring.now graph.now }
+    requires graph { IsGraphRing ring.now graph.now }
     requires list { Each (AreTermsOver ring.now) list.now }
     ensures { let n = variables ring.now in let m = variables graph.now in
         (G : List (FormalSum (variables graph.now))) → AreVectorsFor graph.now G vectors.old.items
@@ -150,7 +150,7 @@ pub(crate) fn graph_list(
     images: &VectList,
     list: &VectList,
 ) -> Result<VectList, NoMemory>
-    requires graph { IsDoubled ring.now graph.now }
+    requires graph { IsGraphRing ring.now graph.now }
     requires images { Each (AreTermsOver ring.now) images.now }
     requires count { length images.now ≡ variables ring.now }
     requires list { Each (AreTermsOver ring.now) list.now }

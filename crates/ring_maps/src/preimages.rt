@@ -9,6 +9,7 @@ ghost use Rattle.syzygy_engine.specs.Answers.{IsBasisOfThose};
 ghost use Rattle.ring_maps.specs.Graphs.{ArePreimageRuns};
 ghost use Rattle.ring_maps.specs.Maps.{IsInPreimage};
 
+use crate::by_weights::preimage_by_weights;
 use crate::graph::graph_basis;
 use crate::second_variables::second_members;
 use groebner_iface::{Groebner, OpStop};
@@ -23,6 +24,9 @@ use std::thread::Threads;
 /// empty list that of the kernel. One run on the graph of the map and the list, by an order that eliminates the variables of
 /// the ring to which the map goes, and one in the ring's own order, where that is another than graded reverse lexicographic,
 /// on the members of its basis that have none of them (IVA chapter 3, section 3).
+///
+/// Where each image and each vector of the list is homogeneous, the graph is attempted before that with the images' degrees as
+/// weights, by which it is homogeneous too. Attempts are no runs that count, and leave the engine as it was.
 ///
 /// `Pairs` and `Degree` are those of one of the runs, which the engine counted and kept; `Memory` where there is none;
 /// `Trail` never.
@@ -49,6 +53,9 @@ pub fn preimage<R: Threads + Wait + Sync, B: Groebner>(
 {
     counted_times();
     lawful_setting(ring);
+    if let Some(basis) = preimage_by_weights(rt, alloc, engine, ring, images, list)? {
+        return Ok(basis);
+    }
     let (graph, basis) = match graph_basis(rt, alloc, engine, ring, images, list) {
         Ok(found) => found,
         Err(stop) => return Err(stop),

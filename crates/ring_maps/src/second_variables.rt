@@ -3,10 +3,10 @@ ghost use Rattle.std.specs.Prelude.{◌≡◌, ◌++◌, ◌∷◌, [], IfOk, Li
 ghost use Rattle.monomials.specs.Exponents.{exponents_of};
 ghost use Rattle.formal_sums.specs.FormalSums.{Each, FormalSum};
 ghost use Rattle.map_laws.specs.Graphs.{exponents_from, from_second, of_second};
-ghost use Rattle.term_lists.specs.Doubling.{IsDoubled};
 ghost use Rattle.term_lists.specs.Rings.{ring_comparison, variables};
 ghost use Rattle.term_lists.specs.Vectors.{AreTermsOver, IsMonomialOver, IsVectorOver, StandsFor, sum_of, sums_of};
 ghost use Rattle.syzygy_engine.specs.Runs.{AreVectorsFor};
+ghost use Rattle.ring_maps.specs.GraphRings.{IsGraphRing};
 
 use crate::first_variables::monomial_of;
 use ideal_ops::is_free;
@@ -16,7 +16,7 @@ use std::alloc::Global;
 
 // The monomial with the exponents of the second variables.
 fn second_monomial(alloc: Global, ring: &Ring, _graph: &Ring, m: &Mono) -> Result<Mono, NoMemory>
-    requires graph { IsDoubled ring.now _graph.now }
+    requires graph { IsGraphRing ring.now _graph.now }
     requires monomial { IsMonomialOver _graph.now m.now }
     ensures over { IfOk result (IsMonomialOver ring.now) }
     ensures after { let n = variables ring.now in let k = variables _graph.now in
@@ -33,7 +33,7 @@ fn second_term(
     graph: &Ring,
     term: (Key, u32),
 ) -> Result<(Key, u32), NoMemory>
-    requires graph { IsDoubled ring.now graph.now }
+    requires graph { IsGraphRing ring.now graph.now }
     requires term { AreTermsOver graph.now (term ∷ []) }
     ensures over { IfOk result (λ t. AreTermsOver ring.now (t ∷ [])) }
     ensures term { let n = variables ring.now in let m = variables graph.now in
@@ -52,7 +52,7 @@ fn second_terms(
     graph: &Ring,
     terms: Vec<(Key, u32)>,
 ) -> Result<Vec<(Key, u32)>, NoMemory>
-    requires graph { IsDoubled ring.now graph.now }
+    requires graph { IsGraphRing ring.now graph.now }
     requires terms { AreTermsOver graph.now terms.items }
     ensures over { IfOk result (λ fewer. AreTermsOver ring.now fewer.items) }
     ensures sum { let n = variables ring.now in let m = variables graph.now in
@@ -73,7 +73,7 @@ pub(crate) fn second_vector(
     graph: &Ring,
     v: Vect,
 ) -> Result<Vect, NoMemory>
-    requires graph { IsDoubled ring.now graph.now }
+    requires graph { IsGraphRing ring.now graph.now }
     requires terms { AreTermsOver graph.now v }
     ensures vector { IfOk result (IsVectorOver ring.now (ring_comparison ring.now)) }
     ensures stands { let n = variables ring.now in let m = variables graph.now in
@@ -91,7 +91,7 @@ fn take_second(
     v: Vect,
     members: &mut Vec<Vect>,
 ) -> Result<(), NoMemory>
-    requires graph { IsDoubled ring.now graph.now }
+    requires graph { IsGraphRing ring.now graph.now }
     requires terms { AreTermsOver graph.now v }
     ensures { let n = variables ring.now in let m = variables graph.now in
         (G : List (FormalSum (variables graph.now))) → AreVectorsFor ring.now (of_second n G) members.old.items
@@ -111,7 +111,7 @@ pub(crate) fn second_members(
     graph: &Ring,
     basis: VectList,
 ) -> Result<VectList, NoMemory>
-    requires graph { IsDoubled ring.now graph.now }
+    requires graph { IsGraphRing ring.now graph.now }
     requires basis { Each (AreTermsOver graph.now) basis }
     ensures { let n = variables ring.now in let m = variables graph.now in
         IfOk result (AreVectorsFor ring.now (of_second n (sums_of m basis))) }

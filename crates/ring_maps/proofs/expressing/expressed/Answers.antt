@@ -5,11 +5,12 @@ use Rattle.term_lists.specs.Rings.{variables}
 use Rattle.term_lists.specs.Vectors.{sum_of}
 use Rattle.syzygy_engine.proofs.Marks.{loose}
 use Rattle.ideal_ops.proofs.Shared.{of_terms}
+use Rattle.ring_maps.proofs.GraphRings.{doubled_graph}
 use Rattle.ring_maps.proofs.GraphBases.{expression_stops, is_expression, no_expression}
 use Rattle.ring_maps.proofs.expressing.expressed.Goals as goal
 
 pub first_vector-requires-clause-graph : goal.first_vector-requires-clause-graph
-first_vector-requires-clause-graph c = c.requires.basis.run.doubled
+first_vector-requires-clause-graph c = doubled_graph c.args.ring.now c.args.graph.now c.requires.basis.run.doubled
 
 pub first_vector-requires-clause-terms : goal.first_vector-requires-clause-terms
 first_vector-requires-clause-terms c = loose c.args.ring.now c.args.g.now c.requires.vector.each
@@ -33,7 +34,7 @@ returns-then-not-is_free-clause-answer c =
     c.in_ok-u.ensures.stands c.in-Ok.ensures.remainder c.in-Ok.ensures.rest left
 
 pub second_vector-requires-clause-graph : goal.second_vector-requires-clause-graph
-second_vector-requires-clause-graph c = c.requires.basis.run.doubled
+second_vector-requires-clause-graph c = doubled_graph c.args.ring.now c.args.graph.now c.requires.basis.run.doubled
 
 pub second_vector-requires-clause-terms : goal.second_vector-requires-clause-terms
 second_vector-requires-clause-terms c = loose c.args.graph.now c.in-Ok.rest c.in-Ok.ensures.rest.each

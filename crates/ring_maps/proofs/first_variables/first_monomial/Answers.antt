@@ -1,12 +1,12 @@
 use Rattle.std.proofs.Common.{ap, arith, length, subst, ◌∙◌, ◌≡◌}
 use Rattle.monomials.specs.Exponents.{exponents_of}
 use Rattle.term_lists.specs.Rings.{variables}
-use Rattle.ring_maps.proofs.Doubled.{doubled_count, first_exponents}
+use Rattle.ring_maps.proofs.GraphRings.{graph_count, first_exponents}
 use Rattle.ring_maps.proofs.first_variables.first_monomial.Goals as goal
 
 pub with_zeros-requires : goal.with_zeros-requires
 with_zeros-requires c =
-    let two = doubled_count c.args._ring.now c.args.graph.now c.requires.graph in
+    let two = graph_count c.args._ring.now c.args.graph.now c.requires.graph in
     omega (arith, ap length c.exponents.ensures.value, c.len.ensures, c.requires.monomial.variables, two)
 
 pub monomial_of-requires : goal.monomial_of-requires

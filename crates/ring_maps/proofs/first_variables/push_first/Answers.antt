@@ -7,7 +7,7 @@ use Rattle.map_laws.specs.Graphs.{in_first}
 use Rattle.term_lists.proofs.Scaling.{Each_at}
 use Rattle.term_lists.specs.Rings.{variables}
 use Rattle.term_lists.specs.Vectors.{AreTermsOver, IsMonomialOver, StandsFor, sum_of}
-use Rattle.ring_maps.proofs.Doubled.{doubled_modulus}
+use Rattle.ring_maps.proofs.GraphRings.{graph_modulus}
 use Rattle.ring_maps.proofs.FirstTerms.{first_more, over_more}
 use Rattle.ring_maps.proofs.first_variables.push_first.Goals as goal
 
@@ -44,7 +44,7 @@ loop-term-preserved c =
     let u = c.in_ok-monomial.monomial in
     let r = c.mul-residue.result in
     let lt : i < length xs = omega arith in
-    let q = sym (doubled_modulus ring graph c.requires.graph) in
+    let q = sym (graph_modulus ring graph c.requires.graph) in
     let value : r ≡ (c.args.c * t.1) % graph.modulus.value = subst (λ p. r ≡ (c.args.c * t.1) % p) q c.mul-residue.ensures.value in
     record {
       over = subst (AreTermsOver graph) (sym {A = Terms} c.in_ok-push.ensures.items)

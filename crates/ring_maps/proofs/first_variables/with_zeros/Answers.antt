@@ -1,5 +1,5 @@
 use Rattle.std.proofs.Common.{ap, ◌++◌, ◌∙◌}
-use Rattle.ring_maps.proofs.Doubled.{with_zeros_same}
+use Rattle.ring_maps.proofs.GraphRings.{with_zeros_same}
 use Rattle.ring_maps.proofs.first_variables.with_zeros.Goals as goal
 
 pub returns-clause-same : goal.returns-clause-same

@@ -3,8 +3,12 @@ use Rattle.groebner_iface.specs.Calls.{NoTrail}
 use Rattle.groebner_iface.proofs.CallingRuns.{run_stops}
 use Rattle.syzygy_engine.proofs.Marks.{loose_list}
 use Rattle.ring_maps.specs.Graphs.{IsGraphRun}
+use Rattle.ring_maps.proofs.GraphRings.{doubled_graph}
 use Rattle.ring_maps.proofs.Listing.{graph_positions}
 use Rattle.ring_maps.proofs.graph.graph_basis.Goals as goal
+
+pub graph_list-requires-clause-graph : goal.graph_list-requires-clause-graph
+graph_list-requires-clause-graph g c = doubled_graph c.args.ring.now c.in_ok-graph.graph c.in_ok-graph.ensures
 
 pub graph_list-requires-clause-images : goal.graph_list-requires-clause-images
 graph_list-requires-clause-images g c = loose_list c.args.ring.now c.args.images.now c.requires.images

@@ -1,4 +1,4 @@
--- The ring of a graph: its variables, its setting, and exponents between the two rings
+-- The rings of a graph: their variables, their settings, and exponents between the two rings
 use Rattle.std.proofs.Common.{List, [], ap, arith, drop, length, map, refl, subst, suc, sym, take, zero, ℕ, ◌++◌, ◌+◌, ◌<◌, ◌∙◌, ◌∷◌, ◌≡◌, ◌≤◌}
 use Rattle.std.proofs.lemmas.List.{length-append, length-map, take_all}
 use Rattle.std.specs.Prelude.{replicate}
@@ -14,35 +14,37 @@ use Rattle.monomial_orders.specs.declared.order.ModOrder.TheVariants.{Top}
 use Rattle.term_lists.specs.Doubling.{IsDoubled, second_name}
 use Rattle.term_lists.specs.Rings.{ring_comparison, setting, variables}
 use Rattle.term_lists.specs.declared.ring.Ring.{Ring}
+use Rattle.ring_maps.specs.GraphRings.{IsGraphRing}
 
 -- ---- the ring
-pub doubled_count : (ring graph : Ring) → IsDoubled ring graph → variables graph ≡ variables ring + variables ring
-doubled_count ring graph d =
+-- with the same weights again it is doubled
+pub doubled_graph : (ring graph : Ring) → IsDoubled ring graph → IsGraphRing ring graph
+doubled_graph ring graph d = record { modulus = d.modulus; vars = d.vars; order = d.order; module_order = d.module_order }
+
+pub graph_count : (ring graph : Ring) → IsGraphRing ring graph → variables graph ≡ variables ring + variables ring
+graph_count ring graph d =
     ap length d.vars ∙ length-append ring.vars (map second_name ring.vars) ∙ ap (λ k. variables ring + k) (length-map ring.vars second_name)
 
-pub doubled_modulus : (ring graph : Ring) → IsDoubled ring graph → graph.modulus.value ≡ ring.modulus.value
-doubled_modulus ring graph d = ap (λ z. z.value) d.modulus
+pub graph_modulus : (ring graph : Ring) → IsGraphRing ring graph → graph.modulus.value ≡ ring.modulus.value
+graph_modulus ring graph d = ap (λ z. z.value) d.modulus
 
 -- its setting eliminates the first variables
-pub doubled_setting :
-    (ring graph : Ring) (rank : ℕ) (S : Setting (variables ring)) → IsDoubled ring graph → S.modulus ≡ ring.modulus.value → S.rank ≡ rank
-    → setting graph (variables graph) (ring_comparison graph (variables graph)) rank
-    ≡ elimination_setting (ring.weights ++ ring.weights) (variables graph) (variables ring) S
-doubled_setting ring graph rank S d em er =
+pub graph_setting :
+    (ring graph : Ring) (rank : ℕ) (S : Setting (variables ring)) → IsGraphRing ring graph → S.modulus ≡ ring.modulus.value → S.rank ≡ rank
+    → setting graph (variables graph) (ring_comparison graph (variables graph)) rank ≡ elimination_setting graph.weights (variables graph) (variables ring) S
+graph_setting ring graph rank S d em er =
     let m = variables graph in
     let n = variables ring in
-    let ws = ring.weights ++ ring.weights in
+    let ws = graph.weights in
     let p = graph.modulus.value in
     let base : Setting m = setting graph m (ring_comparison graph m) rank in
-    let one : base ≡ record { modulus = p; weights = graph.weights; rank = rank; compare = key_comparison Top graph.order graph.weights m } =
-    ap (λ o. record { modulus = p; weights = graph.weights; rank = rank; compare = key_comparison o graph.order graph.weights m }) d.module_order in
-    let two : base ≡ record { modulus = p; weights = graph.weights; rank = rank; compare = key_comparison Top (Elim n) graph.weights m } =
-    one ∙ ap (λ o. record { modulus = p; weights = graph.weights; rank = rank; compare = key_comparison Top o graph.weights m }) d.order in
-    let three : base ≡ record { modulus = p; weights = ws; rank = rank; compare = key_comparison Top (Elim n) ws m } =
-    two ∙ ap (λ w. record { modulus = p; weights = w; rank = rank; compare = key_comparison Top (Elim n) w m }) d.weights in
-    let four : base ≡ record { modulus = S.modulus; weights = ws; rank = rank; compare = key_comparison Top (Elim n) ws m } =
-    three ∙ ap (λ q. record { modulus = q; weights = ws; rank = rank; compare = key_comparison Top (Elim n) ws m }) (doubled_modulus ring graph d ∙ sym em) in
-    four ∙ ap (λ r. record { modulus = S.modulus; weights = ws; rank = r; compare = key_comparison Top (Elim n) ws m }) (sym er)
+    let one : base ≡ record { modulus = p; weights = ws; rank = rank; compare = key_comparison Top graph.order ws m } =
+    ap (λ o. record { modulus = p; weights = ws; rank = rank; compare = key_comparison o graph.order ws m }) d.module_order in
+    let two : base ≡ record { modulus = p; weights = ws; rank = rank; compare = key_comparison Top (Elim n) ws m } =
+    one ∙ ap (λ o. record { modulus = p; weights = ws; rank = rank; compare = key_comparison Top o ws m }) d.order in
+    let three : base ≡ record { modulus = S.modulus; weights = ws; rank = rank; compare = key_comparison Top (Elim n) ws m } =
+    two ∙ ap (λ q. record { modulus = q; weights = ws; rank = rank; compare = key_comparison Top (Elim n) ws m }) (graph_modulus ring graph d ∙ sym em) in
+    three ∙ ap (λ r. record { modulus = S.modulus; weights = ws; rank = r; compare = key_comparison Top (Elim n) ws m }) (sym er)
 
 -- ---- exponents
 -- what is missing is 0
