@@ -14,7 +14,7 @@ use Rattle.orders.specs.WeightedOrders.{weighted_elimination}
 use Rattle.bases.specs.Bases.{IsCovered, IsReducedBasis}
 use Rattle.bases.specs.Leads.{IsLead}
 use Rattle.bases.specs.Settings.{Setting}
-use Rattle.ring_maps.specs.Multiples.{AreMultiples}
+use Rattle.ring_maps.specs.Multiples.{AreWeightMultiples}
 
 -- ---- orders
 module _ {n : ℕ} (p r : ℕ) (ws us : List ℕ) (C D : Key n → Key n → Ordering) (same : (k l : Key n) → C k l ≡ D k l) where
@@ -118,7 +118,7 @@ other_degree c (suc k) (u ∷ us) vs ws (cons a e) pos hu hm hv h =
 
 -- weights whose second half is a multiple of the first compare as the first half does, twice
 pub multiple_alike :
-    {m : ℕ} (n : ℕ) (us vs : List ℕ) (k l : Key m) → length us ≡ n → length vs ≡ n → m ≡ n + n → AreMultiples us vs
+    {m : ℕ} (n : ℕ) (us vs : List ℕ) (k l : Key m) → length us ≡ n → length vs ≡ n → m ≡ n + n → AreWeightMultiples us vs
     → top (weighted_elimination (us ++ vs) n) k l ≡ top (weighted_elimination (us ++ us) n) k l
 multiple_alike {m} n us vs k l hu hv two h =
     let ws = us ++ us in

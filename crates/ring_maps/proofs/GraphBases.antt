@@ -53,7 +53,7 @@ use Rattle.ideal_ops.specs.Products.{WorkStops}
 use Rattle.ring_maps.specs.Graphs.{IsExpressionTrail}
 use Rattle.remainders.specs.Remainders.{IsRemainderOf}
 use Rattle.ring_maps.specs.GraphRings.{IsGraphRing}
-use Rattle.ring_maps.specs.Multiples.{AreMultiples}
+use Rattle.ring_maps.specs.Multiples.{AreWeightMultiples}
 use Rattle.ring_maps.specs.GraphSteps.{IsBasisOfGraph, IsGraphBasis}
 use Rattle.ring_maps.specs.Maps.{HasImage, IsExpression, IsInPreimage, grevlex_setting}
 use Rattle.ring_maps.proofs.AlikeOrders.{basis_alike, multiple_alike}
@@ -126,7 +126,7 @@ module _ (ring graph : Ring) (images list basis : List Terms) (h : IsBasisOfGrap
   by_same_weights e = subst (λ w. IsReducedBasis (elimination_setting w (variables graph) (variables ring) S) I (sums_of (variables graph) basis)) e is_graph
 
   pub by_multiples :
-      (vs : List ℕ) → graph.weights ≡ ring.weights ++ vs → length vs ≡ variables ring → AreMultiples ring.weights vs
+      (vs : List ℕ) → graph.weights ≡ ring.weights ++ vs → length vs ≡ variables ring → AreWeightMultiples ring.weights vs
       → IsReducedBasis D I (sums_of (variables graph) basis)
   by_multiples vs e count h =
       let n = variables ring in

@@ -2,7 +2,7 @@
 ghost use Rattle.std.specs.Prelude.{◌≡◌, ◌<◌, ◌++◌, IfOk, IfSome, IsTrue, length};
 ghost use Rattle.term_lists.specs.Rings.{variables};
 ghost use Rattle.ring_maps.specs.GraphRings.{IsGraphRing};
-ghost use Rattle.ring_maps.specs.Multiples.{AreMultiples};
+ghost use Rattle.ring_maps.specs.Multiples.{AreWeightMultiples};
 
 use module_vectors::{NoMemory, Ring, Vect, VectList};
 use monomial_orders::Weights;
@@ -94,7 +94,7 @@ pub(crate) fn image_weights(
 /// Are the other weights one multiple of these? Then both compare monomials alike.
 pub(crate) fn are_multiples(weights: &Weights, others: &Weights) -> bool
     requires count { length weights.now ≡ length others.now }
-    ensures { IsTrue result → AreMultiples weights.now others.now }
+    ensures { IsTrue result → AreWeightMultiples weights.now others.now }
 {
     let weights = weights.as_slice();
     let others = others.as_slice();
