@@ -4,3 +4,4 @@ pub mod Resting
 pub mod Leaving
 pub mod Starting
 pub mod Keeping
+pub mod Padded

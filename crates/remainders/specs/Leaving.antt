@@ -2,15 +2,16 @@
 use Rattle.std.specs.Prelude.{Bool, List, [], false, get_or, length, true, ℕ, ◌++◌, ◌<◌, ◌∷◌, ◌≡◌, ◌≤◌}
 use Rattle.formal_sums.specs.Combinations.{combination}
 use Rattle.formal_sums.specs.FormalSums.{FormalSum, HasRank, IsSame}
+use Rattle.monomial_orders.specs.Kept.{Monomial}
 use Rattle.term_lists.specs.Rings.{variables}
-use Rattle.term_lists.specs.Vectors.{AreTermsOver, sum_of, sums_of}
+use Rattle.term_lists.specs.Vectors.{AreTermsOver, IsMonomialOver, sum_of, sums_of}
 use Rattle.term_lists.specs.declared.key.Key.{Key as CodeKey}
 use Rattle.term_lists.specs.declared.ring.Ring.{Ring}
+use Rattle.module_vectors.specs.Trails.{KeptProduct}
 use Rattle.vector_division.specs.Divisions.{IsFreeOfLeads, IsUncovered}
 use Rattle.row_matrix.specs.Rows.{Entry, column_key, row_sum}
 use Rattle.numbered_sums.specs.KeySums.{AreEntriesWithin, AreSmall, AreTouched, numbered_sum}
 use Rattle.numbered_sums.specs.ProductEntries.{IsProductEntries}
-use Rattle.numbered_sums.specs.declared.products.Product.{Product}
 
 -- new has the keys of old and behind them others
 pub record IsLonger (old new : List CodeKey) : Type 0 where
@@ -22,10 +23,17 @@ pub record AreEntriesOf (ring : Ring) (keys : List CodeKey) (v : List (CodeKey �
   pub within : AreEntriesWithin ring.modulus.value (length keys) entries
   pub sum : row_sum (column_key (variables ring) keys) entries ≡ sum_of (variables ring) v
 
--- a product of a vector of the list, by numbers of these keys
-pub record IsProductOfList (ring : Ring) (list : List (List (CodeKey × ℕ))) (keys : List CodeKey) (s : Product) : Type 0 where
-  pub index : s.index < length list
-  pub row : IsProductEntries ring list keys s.index s.monomial s.entries.items
+-- a vector of the list by its index, and a monomial of the ring
+pub record AreFactors (ring : Ring) (list : List (List (CodeKey × ℕ))) (s : KeptProduct) : Type 0 where
+  pub index : s.0 < length list
+  pub monomial : IsMonomialOver ring s.1
+
+-- the product of a monomial and a vector of the list, by numbers of these keys
+pub record IsRowOfList (ring : Ring) (list : List (List (CodeKey × ℕ))) (keys : List CodeKey) (entries : List Entry) : Type 0 where
+  pub index : ℕ
+  pub monomial : Monomial
+  pub within : index < length list
+  pub row : IsProductEntries ring list keys index monomial entries
 
 -- no lead of the list divides a key whose number has a flag
 pub record AreFreeFlags (n : ℕ) (list : List (List (CodeKey × ℕ))) (keys : List CodeKey) (flags : List Bool) : Type 0 where

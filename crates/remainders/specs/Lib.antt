@@ -3,3 +3,4 @@ pub mod Remainders
 -- invariants of loops
 pub mod Hashed
 pub mod Leaving
+pub mod UnderWay

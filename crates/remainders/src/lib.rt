@@ -1,13 +1,14 @@
 //! What a division of a vector by a list leaves.
 //!
-//! The keys that the division may come to are numbered, and the product with each key as its lead is made once, as numbers and
-//! residues; then the division is a forward substitution over one sum for each number. Where the products are too many, it goes
-//! from term to term by geobuckets (`vector_division`).
+//! The keys that the division comes to are numbered, and it is a forward substitution over one sum of residues for each number.
+//! The greatest key that waits is taken first; where it has a residue, the product that has it as its lead is made, as numbers and
+//! residues, and taken away. Where keys are too many, the division goes from term to term by geobuckets (`vector_division`).
 #![tactic(auto)]
 
 mod hashes;
 mod products;
 mod remaining;
 mod substituting;
+mod work;
 
 pub use remaining::remainder;

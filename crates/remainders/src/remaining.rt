@@ -1,19 +1,18 @@
 // The rest of a division.
 ghost use Rattle.std.specs.Prelude.{◌≡◌, [], IfErr, IfOk, IfSome, OnOk};
-ghost use Rattle.formal_sums.specs.FormalSums.{Each};
 ghost use Rattle.term_lists.specs.Rings.{ring_comparison, variables};
 ghost use Rattle.term_lists.specs.Vectors.{AreVectorsOver, IsVectorOver};
 ghost use Rattle.vector_division.specs.Divisions.{DivisionStops};
 ghost use Rattle.row_matrix.specs.Rows.{AreKeys};
-ghost use Rattle.remainders.specs.Leaving.{AreEntriesOf, AreFreeFlags, IsProductOfList};
+ghost use Rattle.remainders.specs.Leaving.{AreEntriesOf};
 ghost use Rattle.remainders.specs.Remainders.{IsRemainderOf};
+ghost use Rattle.remainders.specs.UnderWay.{IsUnderWay};
 
-use crate::products::{Known, all_products};
-use crate::substituting::{left_terms, put_start, take_all};
+use crate::substituting::{left_terms, take_all};
+use crate::work::{Work, begin};
 use induced_leads::index_leads;
 use module_vectors::{NoMemory, Ring, Vect, VectList, WorkStop, lawful_setting};
 use monomial_orders::Mono;
-use numbered_sums::{no_work, order_of};
 use row_matrix::{KeyTable, ProductStop, TermHashes, product_row};
 use std::alloc::Global;
 use vector_division::{Reduction, divisors_from_last, reduce_by};
@@ -35,35 +34,28 @@ fn numbered_terms(
     product_row(alloc, numbers, &one, v.terms(), &hashes)
 }
 
-// What is left of the vector, whose entries are these, by these products. None where a key is left that a lead divides.
-fn rest_by(
+// What is left as a vector. None where a key is left that a lead divides.
+fn left_of(
     alloc: Global,
     ring: &Ring,
     list: &[Vect],
     numbers: &KeyTable,
     v: &Vect,
-    start: &[(u32, u32)],
-    known: &Known,
+    mut work: Work,
 ) -> Result<Option<Vect>, NoMemory>
     requires keys { AreKeys (variables ring.now) ring.now.weights numbers.now }
-    requires start { AreEntriesOf ring.now numbers.now v.now start.now }
-    requires flags { AreFreeFlags (variables ring.now) list.now numbers.now known.now.free.items }
-    requires products { Each (IsProductOfList ring.now list.now numbers.now) known.now.products.items }
+    requires way { IsUnderWay ring.now list.now numbers.now v.now work }
     ensures rest { IfOk result (λ rest. IfSome rest (IsVectorOver ring.now (ring_comparison ring.now))) }
     ensures remainder { IfOk result (λ rest. IfSome rest (IsRemainderOf ring.now list.now v.now)) }
 {
+    let _v = v;
     lawful_setting(ring);
-    ring.modulus.domain();
-    let order = order_of(alloc, ring, numbers, &known.products)?;
-    let mut work = no_work(alloc, numbers.len())?;
-    put_start(ring, list, numbers, v, start, &order, &mut work)?;
-    take_all(ring, list, numbers, v, &known.products, &order, &mut work)?;
     let left = left_terms(
         alloc,
         ring,
         list,
         numbers,
-        &known.free,
+        &work.free,
         work.touched.as_slice(),
         &mut work.sums,
     )?;
@@ -73,7 +65,7 @@ fn rest_by(
     }
 }
 
-// What is left of the vector. None where products are too many.
+// What is left of the vector. None where there is too much to do.
 fn numbered_rest(
     alloc: Global,
     ring: &Ring,
@@ -88,16 +80,12 @@ fn numbered_rest(
     let mut numbers = KeyTable::new(alloc)?;
     let start = numbered_terms(alloc, ring, v, &mut numbers)?;
     let index = index_leads(alloc, list)?;
-    match all_products(alloc, ring, list, &index, &mut numbers)? {
-        None => Ok(None),
-        Some(known) => {
-            let rest = rest_by(alloc, ring, list, &numbers, v, &start, &known)?;
-            Ok(rest)
-        }
-    }
+    let mut work = begin(alloc, ring, list, &numbers, v, &start)?;
+    take_all(alloc, ring, list, &index, v, &mut numbers, &mut work)?;
+    Ok(left_of(alloc, ring, list, &numbers, v, work)?)
 }
 
-// What is left of the vector by products that are all made first. None where one of them is too great, or there is no room for all.
+// What is left of the vector by numbers of keys. None where a product is too great, or there is no room for all keys.
 fn by_products(alloc: Global, ring: &Ring, v: &Vect, list: &VectList) -> Option<Vect>
     requires vector { IsVectorOver ring.now (ring_comparison ring.now) v.now }
     requires list { AreVectorsOver ring.now (ring_comparison ring.now) list.now }

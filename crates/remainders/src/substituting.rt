@@ -1,28 +1,41 @@
 // The division as a forward substitution, with a sum of products of residues for each key.
 ghost use Rattle.std.specs.Prelude.{◌≡◌, ◌<◌, IfOk, IfSome, IsTrue, OnOk, length};
-ghost use Rattle.formal_sums.specs.FormalSums.{Each};
 ghost use Rattle.term_lists.specs.Rings.{variables};
-ghost use Rattle.row_matrix.specs.Rows.{AreKeys};
-ghost use Rattle.numbered_sums.specs.KeySums.{AreTouched, AreZeroSums};
-ghost use Rattle.remainders.specs.Leaving.{AreEntriesOf, AreFreeFlags, AreLeft, AreTakenAway, IsProductOfList, IsTermKept};
+ghost use Rattle.term_lists.specs.Vectors.{sums_of};
+ghost use Rattle.vector_division.specs.Divisions.{IsUncovered};
+ghost use Rattle.vector_division.specs.Progress.{AreWeighed};
+ghost use Rattle.row_matrix.specs.Rows.{AreKeys, column_key};
+ghost use Rattle.induced_leads.specs.Spans.{IsIndexOf};
+ghost use Rattle.numbered_sums.specs.KeySums.{AreTouched};
+ghost use Rattle.numbered_sums.specs.ProductEntries.{AreReduced};
+ghost use Rattle.remainders.specs.Hashed.{HaveHashes};
+ghost use Rattle.remainders.specs.Leaving.{AreFreeFlags, AreLeft, AreTakenAway, IsRowOfList, IsTermKept};
+ghost use Rattle.remainders.specs.UnderWay.{IsUnderWay};
 
+use crate::hashes::no_hashes;
+use crate::products::product_for;
+use crate::work::{NOWHERE, Work, keep_factors, wait, widen};
+use induced_leads::{LeadIndex, last_divisor};
 use module_vectors::{Key, NoMemory, Ring, Vect};
-use numbered_sums::{
-    Order, Product, Work, add_multiple, first_group, mark, pass_over, product_at, residue_at,
-    take_place,
-};
-use row_matrix::KeyTable;
+use numbered_sums::{add_multiple, residue_at};
+use row_matrix::{KeyTable, ProductStop, TermHashes};
 use std::alloc::Global;
 use zp_field::Modulus;
 
+// More keys than these are not numbered.
+const MOST_KEYS: usize = 1 << 20;
+
+// Numbers are not taken more often than this. A number is taken again where its key has the hint of one that comes later.
+const MOST_TURNS: usize = 1 << 21;
+
 // The factor with which the product takes this residue away from its lead.
-fn factor_for(modulus: &Modulus, product: &Product, residue: u32) -> u32
+fn factor_for(modulus: &Modulus, product: &[(u32, u32)], residue: u32) -> u32
     requires { residue < modulus.now.value }
     ensures { result < modulus.now.value }
 {
     modulus.domain();
     let negated = modulus.neg(residue);
-    match product.entries.first() {
+    match product.first() {
         None => negated,
         Some(lead) => {
             if lead.1 == 1 || lead.1 == 0 || lead.1 >= modulus.value() {
@@ -36,110 +49,288 @@ fn factor_for(modulus: &Modulus, product: &Product, residue: u32) -> u32
     }
 }
 
-// Takes the product away so often as its lead is there.
+// Takes the product away so often as its lead has this residue.
 fn take_product(
     ring: &Ring,
     list: &[Vect],
     numbers: &KeyTable,
     v: &Vect,
-    product: &Product,
-    order: &Order,
-    work: &mut Work,
+    product: &[(u32, u32)],
+    residue: u32,
+    sums: &mut Vec<u64>,
+    touched: &mut Vec<u32>,
 ) -> Result<(), NoMemory>
-    requires product { IsProductOfList ring.now list.now numbers.now product.now }
-    requires taken { AreTakenAway ring.now list.now numbers.now v.now work.old.sums.items work.old.touched.items }
-    ensures { OnOk result (AreTakenAway ring.now list.now numbers.now v.now work.new.sums.items work.new.touched.items) }
+    requires residue { residue < ring.now.modulus.value }
+    requires product { IsRowOfList ring.now list.now numbers.now product.now }
+    requires taken { AreTakenAway ring.now list.now numbers.now v.now sums.old.items touched.old.items }
+    ensures { OnOk result (AreTakenAway ring.now list.now numbers.now v.now sums.new.items touched.new.items) }
 {
     let _list = list;
     let _numbers = numbers;
     let _v = v;
     let modulus = &ring.modulus;
     modulus.domain();
-    let residue = residue_at(modulus, work.sums.as_slice(), product.number);
-    if residue == 0 {
-        return Ok(());
-    }
-    let from = work.touched.len();
     add_multiple(
         modulus,
         factor_for(modulus, product, residue),
-        &product.entries,
-        work.sums.as_mut_slice(),
-        &mut work.touched,
+        product,
+        sums.as_mut_slice(),
+        touched,
     )?;
-    mark(
-        &order.places,
-        work.touched.as_slice(),
-        from,
-        &mut work.marks,
-        &mut work.words,
-    );
     Ok(())
 }
 
-/// Takes the products away whose places are or come to be marked, each once.
-pub(crate) fn take_all(
+// Sets the sum with this number to 0 where that is its residue, so that the number is touched again by what is added later.
+fn settle(
     ring: &Ring,
     list: &[Vect],
     numbers: &KeyTable,
     v: &Vect,
-    products: &[Product],
-    order: &Order,
-    work: &mut Work,
-) -> Result<(), NoMemory>
-    requires products { Each (IsProductOfList ring.now list.now numbers.now) products.now }
-    requires taken { AreTakenAway ring.now list.now numbers.now v.now work.old.sums.items work.old.touched.items }
-    ensures { OnOk result (AreTakenAway ring.now list.now numbers.now v.now work.new.sums.items work.new.touched.items) }
-{
-    let mut pass = pass_over(first_group(&order.places, work.touched.as_slice()));
-    for _ in 0..products.len() {
-        match take_place(&mut pass, &mut work.marks, &mut work.words) {
-            None => return Ok(()),
-            Some(place) => {
-                if let Some(product) = product_at(products, &order.turns, place) {
-                    take_product(ring, list, numbers, v, product, order, work)?;
-                }
-            }
-        }
-    }
-    Ok(())
-}
-
-/// Puts the vector's entries into sums that are all 0.
-pub(crate) fn put_start(
-    ring: &Ring,
-    list: &[Vect],
-    numbers: &KeyTable,
-    v: &Vect,
-    start: &[(u32, u32)],
-    order: &Order,
-    work: &mut Work,
-) -> Result<(), NoMemory>
-    requires start { AreEntriesOf ring.now numbers.now v.now start.now }
-    requires count { length work.old.sums.items ≡ length numbers.now }
-    requires idle { AreZeroSums work.old.sums.items }
-    ensures { OnOk result (AreTakenAway ring.now list.now numbers.now v.now work.new.sums.items work.new.touched.items) }
+    number: u32,
+    touched: &[u32],
+    sums: &mut Vec<u64>,
+)
+    requires { AreTakenAway ring.now list.now numbers.now v.now sums.old.items touched.now }
+    ensures { AreTakenAway ring.now list.now numbers.now v.now sums.new.items touched.now }
 {
     let _list = list;
     let _numbers = numbers;
     let _v = v;
-    let modulus = &ring.modulus;
-    modulus.domain();
-    work.touched.clear();
-    add_multiple(
-        modulus,
-        1,
-        start,
-        work.sums.as_mut_slice(),
-        &mut work.touched,
+    let _touched = touched;
+    let at = number as usize;
+    if at >= sums.len() {
+        return;
+    }
+    if residue_at(&ring.modulus, sums.as_slice(), number) == 0 {
+        sums[at] = 0;
+    }
+}
+
+// Keeps that no lead of the list divides the key with this number.
+fn keep_flag(ring: &Ring, list: &[Vect], numbers: &KeyTable, number: u32, free: &mut Vec<bool>)
+    requires number { number < length numbers.now }
+    requires uncovered { let n = variables ring.now in IsUncovered (sums_of n list.now) (column_key n numbers.now number) }
+    requires flags { AreFreeFlags (variables ring.now) list.now numbers.now free.old.items }
+    ensures { AreFreeFlags (variables ring.now) list.now numbers.now free.new.items }
+{
+    let _ring = ring;
+    let _list = list;
+    let _numbers = numbers;
+    let at = number as usize;
+    if at < free.len() {
+        free[at] = true;
+    }
+}
+
+// Is it known that no lead divides the key with this number?
+fn is_free(number: u32, work: &Work) -> bool {
+    let at = number as usize;
+    at < work.free.len() && work.free[at]
+}
+
+// Are the factors known for the key with this number?
+fn is_known(number: u32, work: &Work) -> bool {
+    let at = number as usize;
+    at < work.places.len() && work.places[at] != NOWHERE
+}
+
+// Lets a touched number wait, unless no lead divides its key. What divides it is looked for when it is touched first.
+fn look_at(
+    alloc: Global,
+    ring: &Ring,
+    list: &[Vect],
+    index: &LeadIndex,
+    numbers: &KeyTable,
+    v: &Vect,
+    number: u32,
+    work: &mut Work,
+) -> Result<(), NoMemory>
+    requires weighed { AreWeighed (variables ring.now) ring.now.weights list.now }
+    requires index { IsIndexOf list.now index.now }
+    requires keys { AreKeys (variables ring.now) ring.now.weights numbers.now }
+    requires way { IsUnderWay ring.now list.now numbers.now v.now work.old }
+    ensures way { OnOk result (IsUnderWay ring.now list.now numbers.now v.now work.new) }
+    ensures touched { OnOk result (work.new.touched ≡ work.old.touched) }
+{
+    let _v = v;
+    if number as usize >= numbers.len() || is_free(number, work) {
+        return Ok(());
+    }
+    if is_known(number, work) {
+        wait(ring, numbers, number, &mut work.queue)?;
+        return Ok(());
+    }
+    let key = &numbers.keys()[number as usize];
+    match last_divisor(alloc, ring, list, index, key)? {
+        None => {
+            keep_flag(ring, list, numbers, number, &mut work.free);
+            Ok(())
+        }
+        Some(found) => {
+            keep_factors(number, found, &mut work.places, &mut work.factors)?;
+            wait(ring, numbers, number, &mut work.queue)?;
+            Ok(())
+        }
+    }
+}
+
+// Looks at the numbers that were touched from this one on.
+fn look_at_touched(
+    alloc: Global,
+    ring: &Ring,
+    list: &[Vect],
+    index: &LeadIndex,
+    numbers: &KeyTable,
+    v: &Vect,
+    from: usize,
+    work: &mut Work,
+) -> Result<(), NoMemory>
+    requires weighed { AreWeighed (variables ring.now) ring.now.weights list.now }
+    requires index { IsIndexOf list.now index.now }
+    requires keys { AreKeys (variables ring.now) ring.now.weights numbers.now }
+    requires way { IsUnderWay ring.now list.now numbers.now v.now work.old }
+    ensures { OnOk result (IsUnderWay ring.now list.now numbers.now v.now work.new) }
+{
+    for k in from..work.touched.len() {
+        let number = work.touched[k];
+        look_at(alloc, ring, list, index, numbers, v, number, work)?;
+    }
+    Ok(())
+}
+
+// Takes the residue of this number away by the product that has its key as its lead, if there is one.
+fn take_residue(
+    alloc: Global,
+    ring: &Ring,
+    list: &[Vect],
+    index: &LeadIndex,
+    v: &Vect,
+    number: u32,
+    hashes: &mut Vec<TermHashes>,
+    numbers: &mut KeyTable,
+    work: &mut Work,
+) -> Result<(), ProductStop>
+    requires weighed { AreWeighed (variables ring.now) ring.now.weights list.now }
+    requires reduced { AreReduced ring.now.modulus.value list.now }
+    requires index { IsIndexOf list.now index.now }
+    requires hashed { HaveHashes list.now hashes.old.items }
+    requires keys { AreKeys (variables ring.now) ring.now.weights numbers.old }
+    requires way { IsUnderWay ring.now list.now numbers.old v.now work.old }
+    ensures hashed { OnOk result (HaveHashes list.now hashes.new.items) }
+    ensures keys { OnOk result (AreKeys (variables ring.now) ring.now.weights numbers.new) }
+    ensures way { OnOk result (IsUnderWay ring.now list.now numbers.new v.now work.new) }
+{
+    let residue = residue_at(&ring.modulus, work.sums.as_slice(), number);
+    if residue == 0 {
+        return Ok(());
+    }
+    let made = product_for(
+        alloc,
+        ring,
+        list,
+        number,
+        &work.places,
+        &work.factors,
+        hashes,
+        numbers,
     )?;
-    mark(
-        &order.places,
+    widen(ring, list, numbers, v, work)?;
+    match made {
+        None => Ok(()),
+        Some(product) => {
+            let from = work.touched.len();
+            take_product(
+                ring,
+                list,
+                numbers,
+                v,
+                &product,
+                residue,
+                &mut work.sums,
+                &mut work.touched,
+            )?;
+            look_at_touched(alloc, ring, list, index, numbers, v, from, work)?;
+            Ok(())
+        }
+    }
+}
+
+// Takes the residue of this number away, unless no lead divides its key.
+fn take_number(
+    alloc: Global,
+    ring: &Ring,
+    list: &[Vect],
+    index: &LeadIndex,
+    v: &Vect,
+    number: u32,
+    hashes: &mut Vec<TermHashes>,
+    numbers: &mut KeyTable,
+    work: &mut Work,
+) -> Result<(), ProductStop>
+    requires weighed { AreWeighed (variables ring.now) ring.now.weights list.now }
+    requires reduced { AreReduced ring.now.modulus.value list.now }
+    requires index { IsIndexOf list.now index.now }
+    requires hashed { HaveHashes list.now hashes.old.items }
+    requires keys { AreKeys (variables ring.now) ring.now.weights numbers.old }
+    requires way { IsUnderWay ring.now list.now numbers.old v.now work.old }
+    ensures hashed { OnOk result (HaveHashes list.now hashes.new.items) }
+    ensures keys { OnOk result (AreKeys (variables ring.now) ring.now.weights numbers.new) }
+    ensures way { OnOk result (IsUnderWay ring.now list.now numbers.new v.now work.new) }
+{
+    take_residue(alloc, ring, list, index, v, number, hashes, numbers, work)?;
+    settle(
+        ring,
+        list,
+        numbers,
+        v,
+        number,
         work.touched.as_slice(),
-        0,
-        &mut work.marks,
-        &mut work.words,
+        &mut work.sums,
     );
+    Ok(())
+}
+
+/// Takes residues away until none is left whose key a lead divides, or there is too much to do.
+pub(crate) fn take_all(
+    alloc: Global,
+    ring: &Ring,
+    list: &[Vect],
+    index: &LeadIndex,
+    v: &Vect,
+    numbers: &mut KeyTable,
+    work: &mut Work,
+) -> Result<(), ProductStop>
+    requires weighed { AreWeighed (variables ring.now) ring.now.weights list.now }
+    requires reduced { AreReduced ring.now.modulus.value list.now }
+    requires index { IsIndexOf list.now index.now }
+    requires keys { AreKeys (variables ring.now) ring.now.weights numbers.old }
+    requires way { IsUnderWay ring.now list.now numbers.old v.now work.old }
+    ensures keys { OnOk result (AreKeys (variables ring.now) ring.now.weights numbers.new) }
+    ensures way { OnOk result (IsUnderWay ring.now list.now numbers.new v.now work.new) }
+{
+    let mut hashes = no_hashes(alloc, list)?;
+    look_at_touched(alloc, ring, list, index, numbers, v, 0, work)?;
+    for _ in 0..MOST_TURNS {
+        if numbers.len() > MOST_KEYS {
+            return Ok(());
+        }
+        match work.queue.pop() {
+            None => return Ok(()),
+            Some((_hint, number)) => {
+                take_number(
+                    alloc,
+                    ring,
+                    list,
+                    index,
+                    v,
+                    number.0,
+                    &mut hashes,
+                    numbers,
+                    work,
+                )?;
+            }
+        }
+    }
     Ok(())
 }
 

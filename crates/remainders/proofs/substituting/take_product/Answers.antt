@@ -1,4 +1,4 @@
-use Rattle.std.proofs.Common.{ap, arith, length, subst, subst₂, sym, ◌≡◌}
+use Rattle.std.proofs.Common.{ap, arith, length, subst, sym, ◌≡◌}
 use Rattle.numbered_sums.proofs.Taking.{written_back}
 use Rattle.numbered_sums.specs.KeySums.{AddsProduct}
 use Rattle.remainders.proofs.Resting.{taken_more}
@@ -9,15 +9,15 @@ pub returns : goal.returns
 returns c =
     let ring = c.args.ring.now in
     let p = ring.modulus.value in
-    let s = c.args.product.now in
+    let row = c.args.product.now in
     let f = c.factor_for.result in
-    let old = c.args.work.now in
+    let old = c.args.sums.now in
     let new = c.add_multiple.new.sums in
     let touched = c.add_multiple.new.touched.items in
-    let adds : AddsProduct p f s.entries.items old.sums.items new = subst₂ (λ es xs. AddsProduct p f es xs new) c.deref.ensures.value c.as_mut_slice.ensures.value c.in_ok-add_multiple.ensures.adds in
-    let more = taken_more ring c.args.list.now c.args.numbers.now c.args.v.now f old.sums.items new old.touched.items touched s
+    let adds : AddsProduct p f row old.items new = subst (λ xs. AddsProduct p f row xs new) c.as_mut_slice.ensures.value c.in_ok-add_multiple.ensures.adds in
+    let more = taken_more ring c.args.list.now c.args.numbers.now c.args.v.now f old.items new c.args.touched.now.items touched row
     c.requires.taken c.requires.product c.factor_for.ensures adds c.in_ok-add_multiple.ensures.small c.in_ok-add_multiple.ensures.touched in
-    let count : length new ≡ length old.sums.items = adds.count in
-    let whole : old.sums.len ≡ length new = omega (arith, count, c.as_mut_slice.ensures.len, ap length c.as_mut_slice.ensures.value) in
+    let count : length new ≡ length old.items = adds.count in
+    let whole : old.len ≡ length new = omega (arith, count, c.as_mut_slice.ensures.len, ap length c.as_mut_slice.ensures.value) in
     subst (λ ns. AreTakenAway ring c.args.list.now c.args.numbers.now c.args.v.now ns touched)
-    (sym (written_back old.sums.len new old.sums.items whole)) more
+    (sym (written_back old.len new old.items whole)) more
