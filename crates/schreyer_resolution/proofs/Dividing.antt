@@ -1,24 +1,22 @@
 -- The loop of a division by the last divisors
-use Rattle.std.proofs.Common.{Greater, Less, List, None, Option, Ordering, Some, inl, inr, ◌⊎◌, [], ap, arith, get_or, length, refl, subst, subst₂, sym, ℕ, ◌*◌, ◌++◌, ◌+◌, ◌-◌, ◌<◌, ◌∙◌, ◌∷◌, ◌≡◌, append-nil}
+use Rattle.std.proofs.Common.{Greater, Less, List, None, Option, Ordering, Some, inl, inr, ◌⊎◌, [], ap, arith, get_or, length, refl, subst, subst₂, sym, ℕ, ◌*◌, ◌++◌, ◌+◌, ◌<◌, ◌∙◌, ◌∷◌, ◌≡◌, append-nil}
 use Rattle.std.proofs.lemmas.List.{map-append, length-map}
 use Rattle.residues.specs.Residues.{IsCongruent}
-use Rattle.residues.proofs.Congruences.{IsCongruent_add, IsCongruent_minus, IsCongruent_nonzero, IsCongruent_of, IsCongruent_refl, IsCongruent_sym, IsCongruent_trans}
-use Rattle.monomials.specs.Exponents.{exponents_of, unit}
-use Rattle.formal_sums.proofs.Combining.{Each_map, IsMember_append, IsMember_same, IsMember_scale}
-use Rattle.formal_sums.proofs.OfRank.{IsMember_of}
-use Rattle.formal_sums.proofs.Sameness.{IsSame_append, IsSame_of, IsSame_trans, IsSame_refl, IsSame_sym, weighted_sum-minus}
+use Rattle.residues.proofs.Congruences.{IsCongruent_add, IsCongruent_nonzero, IsCongruent_of, IsCongruent_refl, IsCongruent_sym, IsCongruent_trans}
+use Rattle.monomials.specs.Exponents.{exponents_of}
+use Rattle.formal_sums.proofs.Combining.{Each_map}
+use Rattle.formal_sums.proofs.Sameness.{IsSame_append, IsSame_of, IsSame_trans, IsSame_refl, IsSame_sym}
 use Rattle.formal_sums.proofs.WeightedSums.{Each_append, coefficient-append, indicator_other, key_cases}
-use Rattle.formal_sums.specs.Combinations.{IsMember, combination}
-use Rattle.formal_sums.specs.FormalSums.{Each, FormalSum, IsSame, Key, coefficient, indicator, scale, shift}
+use Rattle.formal_sums.specs.Combinations.{combination}
+use Rattle.formal_sums.specs.FormalSums.{Each, FormalSum, IsSame, Key, coefficient, shift}
 use Rattle.orders.proofs.KeyOrdering.{less_of_greater, not_itself}
 use Rattle.orders.specs.KeyOrders.{IsKeyOrder, KeyDivides}
 use Rattle.bases.proofs.FreeTerms.{lead_of_zero}
 use Rattle.bases.proofs.Leading.{IsLead_of_monic, positive}
 use Rattle.bases.proofs.NormalForms.{at_head}
-use Rattle.bases.specs.Bases.{IsCovered, IsGroebnerBasis}
+use Rattle.bases.specs.Bases.{IsGroebnerBasis}
 use Rattle.bases.specs.Leads.{IsLead, IsMonicList, head_key, leads}
 use Rattle.bases.specs.Settings.{IsLawful, Setting}
-use Rattle.division_laws.proofs.Remainders.{remainder_zero}
 use Rattle.monomial_orders.specs.Kept.{Monomial}
 use Rattle.term_lists.specs.Rings.{setting, variables}
 use Rattle.term_lists.specs.Vectors.{AreVectorsOver, IsMonomialOver, IsTerm, IsVectorOver, key_of, sum_of, sums_of}
@@ -44,22 +42,11 @@ use Rattle.induced_leads.specs.Sifting.{IsSifting}
 use Rattle.schreyer_resolution.specs.Chains.{IsFailing}
 use Rattle.schreyer_resolution.specs.Columns.{IsProductDivided, IsProductOf, IsColumnUnderway}
 use Rattle.schreyer_resolution.specs.Steps.{IsLastDivisor}
+use Rattle.schreyer_resolution.proofs.FreeMembers.{free_members_zero, rest_member}
 use Rattle.schreyer_resolution.proofs.Making.{v_member}
 
 abbrev pub Terms : Type 0
 Terms = List (CodeKey × ℕ)
-
--- what was taken away of v leaves the rest
-rest_is : {m : ℕ} (p : ℕ) (v a r : FormalSum m) → 0 < p → IsSame p v (a ++ r) → IsSame p (v ++ scale (p - 1) (unit m) a) r
-rest_is {m} p v a r pos h = record {
-  by_key = λ k. rw (weighted_sum-minus p (indicator k) v a)
-      (IsCongruent_trans (IsCongruent_add (IsCongruent_trans (h.by_key k) (IsCongruent_of p _ _ (coefficient-append a r k))) (IsCongruent_refl p ((p - 1) * coefficient a k)))
-      (IsCongruent_trans (IsCongruent_of p _ _ (shuffled (coefficient a k) (coefficient r k) ((p - 1) * coefficient a k)))
-      (IsCongruent_trans (IsCongruent_add (IsCongruent_refl p (coefficient r k)) (IsCongruent_minus p (coefficient a k) pos)) (IsCongruent_of p _ _ (omega arith)))));
-}
-  where
-    shuffled : (x y z : ℕ) → x + y + z ≡ y + (x + z)
-    shuffled x y z = omega arith
 
 -- a term above all others is the lead of the sum
 lead_of_next :
@@ -267,29 +254,17 @@ module _ (ring : Ring) (compare : (n : ℕ) → Key n → Key n → Ordering) (r
         c : FormalSum (variables ring)
         c = combination F (cofactors_of (variables ring) qs)
 
-        D : FormalSum (variables ring)
-        D = sum_of (variables ring) u.dropped
-
         whole : IsSame ring.modulus.value (sum_of (variables ring) u.product) (combination F (cofactors_of (variables ring) qs) ++ sum_of (variables ring) u.dropped)
         whole = subst (λ z. IsSame ring.modulus.value (sum_of (variables ring) u.product) (combination F (cofactors_of (variables ring) qs) ++ z))
             (ap (λ z. sum_of (variables ring) u.dropped ++ z) none ∙ append-nil (sum_of (variables ring) u.dropped)) u.progress.sum
 
-        member : IsMember S.modulus F (sum_of (variables ring) u.dropped)
-        member =
-            let a = combination F (cofactors_of (variables ring) qs) in
-            let v = sum_of (variables ring) u.product in
-            let m = v_member ring compare rank lawful cols monic key pair u.product u.of_column in
-            IsMember_same F (v ++ scale (S.modulus - 1) (unit (variables ring)) a) (sum_of (variables ring) u.dropped) (rest_is S.modulus v a (sum_of (variables ring) u.dropped) (positive S lawful) whole)
-            (IsMember_append F v _ m (IsMember_scale (positive S lawful) F (S.modulus - 1) (unit (variables ring)) a (IsMember_of F (cofactors_of (variables ring) qs) a (IsSame_refl S.modulus a))))
-
         zero : IsSame ring.modulus.value (sum_of (variables ring) u.dropped) []
-        zero = remainder_zero S lawful F F basis (sum_of (variables ring) u.dropped) member (λ k lead cov. uncovered_lead k lead cov (occurs (sum_of (variables ring) u.dropped) k))
-          where
-            uncovered_lead :
-                (k : Key (variables ring)) → IsLead S (sum_of (variables ring) u.dropped) k → IsCovered S F k
-                → HasKey (sum_of (variables ring) u.dropped) k ⊎ (coefficient (sum_of (variables ring) u.dropped) k ≡ 0) → ⊥
-            uncovered_lead k lead (i, l, ld, d) (inl h) = at_key (IsUncovered F) (sum_of (variables ring) u.dropped) k u.progress.reduced h i l (λ z. lead_of_zero S (get_or F i []) (leads F i) z ld) d
-            uncovered_lead k lead cov (inr z) = lead.nonzero (IsCongruent_of S.modulus _ _ z)
+        zero =
+            let D = sum_of (variables ring) u.dropped in
+            let v = sum_of (variables ring) u.product in
+            free_members_zero ring compare rank lawful cols basis D
+            (rest_member S.modulus (positive S lawful) F v (cofactors_of (variables ring) qs) D
+            (v_member ring compare rank lawful cols monic key pair u.product u.of_column) whole) u.progress.reduced
 
     module _
         (qs : List ScaledProduct) (t : CodeKey × ℕ) (runs : List Terms) (weighed : IsMonomialOver ring t.0.monomial) (pos : 0 < t.1)

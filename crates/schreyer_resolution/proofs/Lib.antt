@@ -1,5 +1,6 @@
 pub mod Canonical
 pub mod Making
+pub mod FreeMembers
 pub mod Dividing
 pub mod Trailing
 pub mod FirstMaps
@@ -7,6 +8,7 @@ pub mod Starting
 pub mod Places
 pub mod Lengths
 pub mod Pairing
+pub mod FreeRows
 pub mod Substitution
 pub mod Rows
 pub mod SharedColumns

@@ -5,4 +5,5 @@ pub mod Columns
 pub mod Chains
 pub mod Sorting
 pub mod Progress
+pub mod FreeKeys
 pub mod Sharing

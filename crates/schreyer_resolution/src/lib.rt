@@ -8,6 +8,7 @@
 #![tactic(auto)]
 
 mod column;
+mod free_entries;
 mod numbered;
 mod resolving;
 mod shared;

@@ -1,5 +1,5 @@
 // Products of columns over numbers of their keys, each made once for all columns of the next map.
-ghost use Rattle.std.specs.Prelude.{◌≡◌, ◌<◌, ◌++◌, ◌∷◌, [], IfOk, OnOk, length};
+ghost use Rattle.std.specs.Prelude.{◌≡◌, ◌<◌, ◌+◌, ◌++◌, ◌∷◌, [], IfOk, OnOk, length};
 ghost use Rattle.formal_sums.specs.FormalSums.{Each};
 ghost use Rattle.term_lists.specs.Rings.{variables};
 ghost use Rattle.term_lists.specs.Vectors.{IsMonomialOver};
@@ -9,7 +9,8 @@ ghost use Rattle.row_matrix.specs.Rows.{AreKeys};
 ghost use Rattle.induced_leads.specs.Pairs.{AreNonzero};
 ghost use Rattle.induced_leads.specs.Spans.{IsIndexOf};
 ghost use Rattle.numbered_sums.specs.ProductEntries.{AreReduced, IsProductEntries};
-ghost use Rattle.schreyer_resolution.specs.Sharing.{AreColumnHashes, IsLastProduct};
+ghost use Rattle.schreyer_resolution.specs.FreeKeys.{AreFreeNumbers, HasMoreKeys};
+ghost use Rattle.schreyer_resolution.specs.Sharing.{AreColumnHashes, AreStarts, IsLastProduct, entry_lists};
 
 use induced_leads::{LeadIndex, last_divisor};
 use module_vectors::{Key, NoMemory, Ring, Vect};
@@ -63,15 +64,15 @@ pub(crate) fn column_product(
     )
 }
 
-/// Gives numbers to the keys of the products of these keys' monomials and their columns.
-pub(crate) fn number_products(
+/// The entries of the products of these keys' monomials and their columns. Their keys have numbers from then on.
+pub(crate) fn start_rows(
     alloc: Global,
     ring: &Ring,
     columns: &[Vect],
     hashes: &[TermHashes],
     keys: &[Key],
     numbers: &mut KeyTable,
-) -> Result<(), ProductStop>
+) -> Result<Vec<Vec<(u32, u32)>>, ProductStop>
     requires positions { Each (λ k. k.position < length columns.now) keys.now }
     requires monomials { Each (λ k. IsMonomialOver ring.now k.monomial) keys.now }
     requires weighed { AreWeighed (variables ring.now) ring.now.weights columns.now }
@@ -79,9 +80,11 @@ pub(crate) fn number_products(
     requires hashes { AreColumnHashes columns.now hashes.now }
     requires keys { AreKeys (variables ring.now) ring.now.weights numbers.old }
     ensures keys { OnOk result (AreKeys (variables ring.now) ring.now.weights numbers.new) }
+    ensures starts { IfOk result (λ rows. AreStarts ring.now columns.now numbers.new keys.now (length keys.now) (entry_lists rows.items)) }
 {
+    let mut rows = Vec::with_capacity(alloc, keys.len())?;
     for key in keys {
-        let _row = column_product(
+        rows.push_reserved(column_product(
             alloc,
             ring,
             columns,
@@ -89,9 +92,9 @@ pub(crate) fn number_products(
             key.position as usize,
             &key.monomial,
             numbers,
-        )?;
+        )?);
     }
-    Ok(())
+    Ok(rows)
 }
 
 // Puts the product behind the others.
@@ -102,7 +105,15 @@ fn keep_product(product: Product, products: &mut Vec<Product>) -> Result<(), NoM
     Ok(())
 }
 
-// Puts the product of the key with this number behind the others, if a lead divides the key.
+// Puts the flag behind the others.
+fn keep_flag(flag: bool, free: &mut Vec<bool>) -> Result<(), NoMemory>
+    ensures { OnOk result (free.new.items ≡ free.old.items ++ flag ∷ []) }
+{
+    free.push(flag)?;
+    Ok(())
+}
+
+// Puts the product of the key with this number behind the others, if a lead divides the key, and a flag that says whether none does.
 fn push_product(
     alloc: Global,
     ring: &Ring,
@@ -112,8 +123,10 @@ fn push_product(
     number: usize,
     numbers: &mut KeyTable,
     products: &mut Vec<Product>,
+    free: &mut Vec<bool>,
 ) -> Result<(), ProductStop>
     requires number { number < length numbers.old }
+    requires next { length free.old.items ≡ number }
     requires some { AreNonzero columns.now }
     requires weighed { AreWeighed (variables ring.now) ring.now.weights columns.now }
     requires reduced { AreReduced ring.now.modulus.value columns.now }
@@ -121,12 +134,19 @@ fn push_product(
     requires hashes { AreColumnHashes columns.now hashes.now }
     requires keys { AreKeys (variables ring.now) ring.now.weights numbers.old }
     requires products { Each (IsLastProduct ring.now columns.now numbers.old) products.old.items }
+    requires free { AreFreeNumbers (variables ring.now) columns.now numbers.old free.old.items }
     ensures keys { OnOk result (AreKeys (variables ring.now) ring.now.weights numbers.new) }
+    ensures more { OnOk result (HasMoreKeys numbers.old numbers.new) }
+    ensures next { OnOk result (length free.new.items ≡ number + 1) }
     ensures products { OnOk result (Each (IsLastProduct ring.now columns.now numbers.new) products.new.items) }
+    ensures free { OnOk result (AreFreeNumbers (variables ring.now) columns.now numbers.new free.new.items) }
 {
     let found = last_divisor(alloc, ring, columns, index, &numbers.keys()[number])?;
     match found {
-        None => Ok(()),
+        None => {
+            keep_flag(true, free)?;
+            Ok(())
+        }
         Some((at, monomial)) => {
             let entries = column_product(
                 alloc,
@@ -144,12 +164,14 @@ fn push_product(
                 entries,
             };
             keep_product(product, products)?;
+            keep_flag(false, free)?;
             Ok(())
         }
     }
 }
 
-/// The product of each key that has a number or gets one in such a product, where a lead divides the key.
+/// The product of each key that has a number or gets one in such a product, where a lead divides the key. For each number a flag is
+/// put behind the others that says whether no lead divides its key.
 pub(crate) fn all_products(
     alloc: Global,
     ring: &Ring,
@@ -157,7 +179,9 @@ pub(crate) fn all_products(
     index: &LeadIndex,
     hashes: &[TermHashes],
     numbers: &mut KeyTable,
+    free: &mut Vec<bool>,
 ) -> Result<Vec<Product>, ProductStop>
+    requires no_flags { free.old.items ≡ [] }
     requires some { AreNonzero columns.now }
     requires weighed { AreWeighed (variables ring.now) ring.now.weights columns.now }
     requires reduced { AreReduced ring.now.modulus.value columns.now }
@@ -165,7 +189,10 @@ pub(crate) fn all_products(
     requires hashes { AreColumnHashes columns.now hashes.now }
     requires keys { AreKeys (variables ring.now) ring.now.weights numbers.old }
     ensures keys { OnOk result (AreKeys (variables ring.now) ring.now.weights numbers.new) }
+    ensures more { OnOk result (HasMoreKeys numbers.old numbers.new) }
     ensures products { IfOk result (λ products. Each (IsLastProduct ring.now columns.now numbers.new) products.items) }
+    ensures whole { OnOk result (length free.new.items ≡ length numbers.new) }
+    ensures free { OnOk result (AreFreeNumbers (variables ring.now) columns.now numbers.new free.new.items) }
 {
     let mut products = Vec::with_capacity(alloc, numbers.len())?;
     for number in 0..MOST_KEYS {
@@ -181,6 +208,7 @@ pub(crate) fn all_products(
             number,
             numbers,
             &mut products,
+            free,
         )?;
     }
     Err(ProductStop::Memory)

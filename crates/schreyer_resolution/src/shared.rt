@@ -6,23 +6,24 @@ ghost use Rattle.orders.specs.KeyOrders.{Descends};
 ghost use Rattle.term_lists.specs.Rings.{variables};
 ghost use Rattle.term_lists.specs.Vectors.{AreVectorsOver, IsMonomialOver, IsTerm, IsVectorOver, key_of, sum_of, sums_of};
 ghost use Rattle.vector_division.specs.Progress.{AreWeighed};
-ghost use Rattle.row_matrix.specs.Rows.{AreKeys};
 ghost use Rattle.resolution_maps.specs.Inducing.{tower_comparison};
 ghost use Rattle.induced_leads.specs.Pairs.{AreNonzero};
 ghost use Rattle.induced_leads.specs.Spans.{IsIndexOf};
 ghost use Rattle.induced_leads.specs.PairLeads.{ArePairLeads, IsBase};
 ghost use Rattle.schreyer_resolution.specs.Columns.{AreColumnsTo, IsAbove};
 ghost use Rattle.numbered_sums.specs.KeySums.{AreZeroSums};
-ghost use Rattle.numbered_sums.specs.ProductEntries.{AreReduced, IsProductEntries};
-ghost use Rattle.schreyer_resolution.specs.Sharing.{AreColumnHashes, AreColumnsMade, IsLastProduct, IsColumnMade};
+ghost use Rattle.numbered_sums.specs.ProductEntries.{AreReduced};
+ghost use Rattle.schreyer_resolution.specs.FreeKeys.{AreFreeMembersZero, IsProductUpToFree};
+ghost use Rattle.schreyer_resolution.specs.Sharing.{AreColumnsMade, AreStarts, IsColumnMade, IsLastProduct, entry_lists};
 
 use crate::column::column_terms;
-use crate::numbered::{all_products, column_hashes, column_product, number_products};
+use crate::free_entries::{cut_products, cut_starts};
+use crate::numbered::{all_products, column_hashes, start_rows};
 use crate::substituting::quotients_of;
 use induced_leads::{Induced, LeadIndex};
 use module_vectors::{Frame, Key, NoMemory, Ring, Vect, VectList, lawful_setting};
 use numbered_sums::{Order, Product, Work, no_work, order_of};
-use row_matrix::{KeyTable, ProductStop, TermHashes};
+use row_matrix::{KeyTable, ProductStop};
 use std::alloc::Global;
 use std::cmp::Ordering;
 
@@ -78,12 +79,14 @@ fn shared_column(
 ) -> Result<Option<Vect>, NoMemory>
     requires over { induced.now.ring ≡ ring.now }
     requires monomial { IsMonomialOver ring.now key.now.monomial }
+    requires base { AreFreeMembersZero ring.now columns.now }
     requires products { Each (IsLastProduct ring.now columns.now numbers.now) products.now }
-    requires start { IsProductEntries ring.now columns.now numbers.now key.now.position key.now.monomial start.now }
+    requires start { IsProductUpToFree ring.now columns.now numbers.now key.now.position key.now.monomial start.now }
     requires count { length work.old.sums.items ≡ length numbers.now }
     requires idle { AreZeroSums work.old.sums.items }
     ensures made { IfOk result (λ made. IfSome made (IsColumnMade ring.now columns.now induced.now key.now)) }
     ensures idle { IfOk result (λ made. IfSome made (λ _. AreZeroSums work.new.sums.items)) }
+    ensures count { IfOk result (λ made. IfSome made (λ _. length work.new.sums.items ≡ length numbers.now)) }
 {
     let modulus = &ring.modulus;
     modulus.domain();
@@ -99,69 +102,6 @@ fn shared_column(
     }
 }
 
-// The product of the key's monomial and its column. The products stay what they are.
-fn next_start(
-    alloc: Global,
-    ring: &Ring,
-    columns: &[Vect],
-    hashes: &[TermHashes],
-    key: &Key,
-    products: &[Product],
-    numbers: &mut KeyTable,
-) -> Result<Vec<(u32, u32)>, ProductStop>
-    requires position { key.now.position < length columns.now }
-    requires monomial { IsMonomialOver ring.now key.now.monomial }
-    requires weighed { AreWeighed (variables ring.now) ring.now.weights columns.now }
-    requires reduced { AreReduced ring.now.modulus.value columns.now }
-    requires hashes { AreColumnHashes columns.now hashes.now }
-    requires keys { AreKeys (variables ring.now) ring.now.weights numbers.old }
-    requires products { Each (IsLastProduct ring.now columns.now numbers.old) products.now }
-    ensures row { IfOk result (λ row. IsProductEntries ring.now columns.now numbers.new key.now.position key.now.monomial row.items) }
-    ensures keys { OnOk result (AreKeys (variables ring.now) ring.now.weights numbers.new) }
-    ensures products { OnOk result (Each (IsLastProduct ring.now columns.now numbers.new) products.now) }
-{
-    let _products = products;
-    let at = key.position as usize;
-    column_product(alloc, ring, columns, hashes, at, &key.monomial, numbers)
-}
-
-// The next column, whose product's keys have numbers; none where a test fails.
-fn next_column(
-    alloc: Global,
-    ring: &Ring,
-    induced: &Induced<'_>,
-    columns: &[Vect],
-    hashes: &[TermHashes],
-    key: &Key,
-    products: &[Product],
-    order: &Order,
-    numbers: &mut KeyTable,
-    work: &mut Work,
-) -> Result<Option<Vect>, ProductStop>
-    requires over { induced.now.ring ≡ ring.now }
-    requires position { key.now.position < length columns.now }
-    requires monomial { IsMonomialOver ring.now key.now.monomial }
-    requires weighed { AreWeighed (variables ring.now) ring.now.weights columns.now }
-    requires reduced { AreReduced ring.now.modulus.value columns.now }
-    requires hashes { AreColumnHashes columns.now hashes.now }
-    requires keys { AreKeys (variables ring.now) ring.now.weights numbers.old }
-    requires products { Each (IsLastProduct ring.now columns.now numbers.old) products.now }
-    requires idle { AreZeroSums work.old.sums.items }
-    ensures made { IfOk result (λ made. IfSome made (IsColumnMade ring.now columns.now induced.now key.now)) }
-    ensures keys { OnOk result (AreKeys (variables ring.now) ring.now.weights numbers.new) }
-    ensures products { OnOk result (Each (IsLastProduct ring.now columns.now numbers.new) products.now) }
-    ensures idle { IfOk result (λ made. IfSome made (λ _. AreZeroSums work.new.sums.items)) }
-{
-    let start = next_start(alloc, ring, columns, hashes, key, products, numbers)?;
-    if work.sums.len() != numbers.len() {
-        return Ok(None);
-    }
-    let made = shared_column(
-        alloc, ring, induced, columns, numbers, key, products, order, &start, work,
-    )?;
-    Ok(made)
-}
-
 // Puts the column behind the others.
 fn push_column(made: Vect, next: &mut Vec<Vect>) -> Result<(), NoMemory>
     ensures { OnOk result (next.new.items ≡ next.old.items ++ made ∷ []) }
@@ -170,34 +110,32 @@ fn push_column(made: Vect, next: &mut Vec<Vect>) -> Result<(), NoMemory>
     Ok(())
 }
 
-// The columns with these leads, whose products' keys have numbers; none where a test fails.
+// The columns with these leads, by the entries of the products with which they start; none where a test fails.
 fn columns_by(
     alloc: Global,
     ring: &Ring,
     induced: &Induced<'_>,
     columns: &[Vect],
-    hashes: &[TermHashes],
+    numbers: &KeyTable,
     keys: &[Key],
     products: &[Product],
     order: &Order,
-    numbers: &mut KeyTable,
+    starts: &[Vec<(u32, u32)>],
     work: &mut Work,
-) -> Result<Option<Vec<Vect>>, ProductStop>
+) -> Result<Option<Vec<Vect>>, NoMemory>
     requires over { induced.now.ring ≡ ring.now }
-    requires positions { Each (λ k. k.position < length columns.now) keys.now }
+    requires base { AreFreeMembersZero ring.now columns.now }
     requires monomials { Each (λ k. IsMonomialOver ring.now k.monomial) keys.now }
-    requires weighed { AreWeighed (variables ring.now) ring.now.weights columns.now }
-    requires reduced { AreReduced ring.now.modulus.value columns.now }
-    requires hashes { AreColumnHashes columns.now hashes.now }
-    requires keys { AreKeys (variables ring.now) ring.now.weights numbers.old }
-    requires products { Each (IsLastProduct ring.now columns.now numbers.old) products.now }
+    requires products { Each (IsLastProduct ring.now columns.now numbers.now) products.now }
+    requires starts { AreStarts ring.now columns.now numbers.now keys.now (length keys.now) (entry_lists starts.now) }
+    requires count { length work.old.sums.items ≡ length numbers.now }
     requires idle { AreZeroSums work.old.sums.items }
     ensures { IfOk result (λ made. IfSome made (λ next. AreColumnsMade ring.now columns.now induced.now keys.now (length keys.now) next.items)) }
 {
     let mut next = Vec::with_capacity(alloc, keys.len())?;
-    for key in keys {
-        match next_column(
-            alloc, ring, induced, columns, hashes, key, products, order, numbers, work,
+    for i in 0..keys.len() {
+        match shared_column(
+            alloc, ring, induced, columns, numbers, &keys[i], products, order, &starts[i], work,
         )? {
             None => return Ok(None),
             Some(made) => push_column(made, &mut next)?,
@@ -218,6 +156,7 @@ fn made_columns<F: Frame>(
 ) -> Result<Option<Vec<Vect>>, ProductStop>
     requires frame { F.over frame.now ≡ ring.now }
     requires over { induced.now.ring ≡ ring.now }
+    requires base { AreFreeMembersZero ring.now columns.now }
     requires some { AreNonzero columns.now }
     requires index { IsIndexOf columns.now index.now }
     requires positions { Each (λ k. k.position < length columns.now) keys.now }
@@ -228,22 +167,25 @@ fn made_columns<F: Frame>(
 {
     let hashes = column_hashes(alloc, columns)?;
     let mut numbers = KeyTable::new(alloc)?;
-    number_products(alloc, ring, columns, &hashes, keys, &mut numbers)?;
-    let products = all_products(alloc, ring, columns, index, &hashes, &mut numbers)?;
-    let order = order_of(alloc, frame, &numbers, &products)?;
-    let mut work = no_work(alloc, numbers.len())?;
-    columns_by(
+    let mut starts = start_rows(alloc, ring, columns, &hashes, keys, &mut numbers)?;
+    let mut free = Vec::with_capacity(alloc, numbers.len())?;
+    let mut products = all_products(
         alloc,
         ring,
-        induced,
         columns,
+        index,
         &hashes,
-        keys,
-        &products,
-        &order,
         &mut numbers,
-        &mut work,
-    )
+        &mut free,
+    )?;
+    cut_products(ring, columns, &numbers, &free, &mut products);
+    cut_starts(ring, columns, &numbers, &free, keys, &mut starts);
+    let order = order_of(alloc, frame, &numbers, &products)?;
+    let mut work = no_work(alloc, numbers.len())?;
+    let made = columns_by(
+        alloc, ring, induced, columns, &numbers, keys, &products, &order, &starts, &mut work,
+    )?;
+    Ok(made)
 }
 
 /// The columns with these leads, each product of a column made once for all of them. None where a product is too great or

@@ -2,7 +2,7 @@
 ghost use Rattle.std.specs.Prelude.{◌≡◌, [], IfOk, IfSome, OnOk, length};
 ghost use Rattle.formal_sums.specs.FormalSums.{Each};
 ghost use Rattle.numbered_sums.specs.KeySums.{AreZeroSums};
-ghost use Rattle.numbered_sums.specs.ProductEntries.{IsProductEntries};
+ghost use Rattle.schreyer_resolution.specs.FreeKeys.{AreFreeMembersZero, IsProductUpToFree};
 ghost use Rattle.schreyer_resolution.specs.Sharing.{AreLastQuotients, AreTakenQuotients, IsLastProduct};
 
 use module_vectors::{Key, NoMemory, Ring, Vect};
@@ -158,8 +158,8 @@ fn take_all(
     Ok(quotients)
 }
 
-/// The quotients of the key's product, whose entries these are, by these products, the one with the greatest lead first; none
-/// where something is left.
+/// The quotients of the key's product by these products, the one with the greatest lead first; none where something is left. `start`
+/// has the entries of the key's product without some whose keys no lead divides.
 pub(crate) fn quotients_of(
     alloc: Global,
     ring: &Ring,
@@ -172,7 +172,8 @@ pub(crate) fn quotients_of(
     work: &mut Work,
 ) -> Result<Option<Vec<ScaledProduct>>, NoMemory>
     requires products { Each (IsLastProduct ring.now columns.now numbers.now) products.now }
-    requires start { IsProductEntries ring.now columns.now numbers.now key.now.position key.now.monomial start.now }
+    requires base { AreFreeMembersZero ring.now columns.now }
+    requires start { IsProductUpToFree ring.now columns.now numbers.now key.now.position key.now.monomial start.now }
     requires count { length work.old.sums.items ≡ length numbers.now }
     requires idle { AreZeroSums work.old.sums.items }
     ensures quotients { IfOk result (λ found. IfSome found (λ qs. AreLastQuotients ring.now columns.now key.now qs.items)) }

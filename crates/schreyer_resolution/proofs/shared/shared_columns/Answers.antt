@@ -8,9 +8,11 @@ use Rattle.vector_division.specs.Progress.{AreWeighed}
 use Rattle.induced_leads.proofs.PairSteps.{base_leads}
 use Rattle.induced_leads.specs.Pairs.{AreNonzero}
 use Rattle.induced_leads.specs.Spans.{IsIndexOf}
+use Rattle.schreyer_resolution.proofs.FreeMembers.{free_members_zero}
 use Rattle.schreyer_resolution.proofs.SharedColumns.{columns_of_made, positions_of, vectors_reduced}
 use Rattle.schreyer_resolution.specs.Columns.{AreColumnsTo}
 use Rattle.numbered_sums.specs.ProductEntries.{AreReduced}
+use Rattle.schreyer_resolution.specs.FreeKeys.{AreFreeMembersZero}
 use Rattle.schreyer_resolution.specs.Sharing.{AreColumnsMade}
 use Rattle.schreyer_resolution.proofs.shared.shared_columns.Goals as goal
 
@@ -19,6 +21,13 @@ made_columns-made-requires-clause-frame g c = sym c.ring-ring.ensures
 
 pub made_columns-made-requires-clause-over : goal.made_columns-made-requires-clause-over
 made_columns-made-requires-clause-over g c = c.requires.over ∙ sym c.ring-ring.ensures
+
+pub made_columns-made-requires-clause-base : goal.made_columns-made-requires-clause-base
+made_columns-made-requires-clause-base g c =
+    let ring = g.F.Frame.over c.args.frame.now in
+    let base = c.requires.base in
+    subst₂ AreFreeMembersZero (sym c.ring-ring.ensures) (sym c.as_slice.ensures)
+    (free_members_zero ring (g.F.Frame.compare c.args.frame.now) base.rank (c.lawful_setting.ensures base.rank) c.args.columns.now base.basis)
 
 pub made_columns-made-requires-clause-some : goal.made_columns-made-requires-clause-some
 made_columns-made-requires-clause-some g c =

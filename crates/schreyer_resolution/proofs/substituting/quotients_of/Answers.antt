@@ -45,6 +45,7 @@ take_all-requires-clause-taken c =
 pub returns-then-clear_sums-clause-quotients : goal.returns-then-clear_sums-clause-quotients
 returns-then-clear_sums-clause-quotients c =
     let n = variables c.args.ring.now in
+    let one : 1 < c.args.ring.now.modulus.value = c.domain.ensures.above_one in
     taken_all c.args.ring.now c.args.columns.now c.args.numbers.now c.args.key.now c.in_ok-quotients.quotients.items c.take_all.new.work.sums.items
-    c.take_all.new.work.touched.items c.in_ok-quotients.ensures
+    c.take_all.new.work.touched.items (omega (arith, one)) c.requires.base c.in_ok-quotients.ensures
     (c.if-clear_sums.ensures.same n (column_key n c.args.numbers.now) refl)
