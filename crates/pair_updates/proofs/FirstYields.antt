@@ -84,9 +84,12 @@ yields_through G h i j c a b = record {
 }
 
 -- a pair that yields is one: so what is none yields to none
+pub yielding_pair : {n : ℕ} (G : List (FormalSum n)) (h i c : ℕ) → i < h → YieldsTo G h i c → IsPair G (i, h)
+yielding_pair G h i c lt y =
+    record { ordered = lt; within = y.pair.within; position = sym (ap (λ k. k.0) y.divides.divides.1) ∙ y.pair.position }
+
 pub none_yields : {n : ℕ} (G : List (FormalSum n)) (h i c : ℕ) → (IsPair G (i, h) → ⊥) → i < h → YieldsTo G h i c → ⊥
-none_yields G h i c none lt y =
-    none (record { ordered = lt; within = y.pair.within; position = sym (ap (λ k. k.0) y.divides.divides.1) ∙ y.pair.position })
+none_yields G h i c none lt y = none (yielding_pair G h i c lt y)
 
 module _ (m : LeadsShown) (h k : ℕ) (firsts : List (Option ℕ)) (active : List ℕ) (low : AreLowerYields m h k firsts active) where
   abbrev G : List (FormalSum m.variables)
@@ -362,20 +365,6 @@ all_settled m h k active firsts left end s = record {
     all i remains pair None (inr (inl w)) = absurd (none_waits i w)
     all i remains pair None (inr (inr q)) = q.1
     all i remains pair (Some c) y = absurd (remains c y.yields)
-
--- what the list has for the pair of i and h
-pub first_of :
-    (m : LeadsShown) (h i : ℕ) (firsts : List (Option ℕ)) (left : List ℕ) (x : NewPair) → AreFirstYields m h firsts left → i < h → new_pair_of x ≡ (i, h)
-    → IsPair (sums_shown m) (i, h)
-    → MatchOption (get_or firsts i None) (Remains (sums_shown m) x.j x.i) (λ j. YieldsFirstTo (sums_shown m) x.j x.i j)
-first_of m h i firsts left x all lt e pair =
-    subst (λ (p : Pair). MatchOption (get_or firsts i None) (Remains (sums_shown m) p.1 p.0) (λ j. YieldsFirstTo (sums_shown m) p.1 p.0 j)) (sym e)
-    (go (get_or firsts i None) (all.each i lt))
-  where
-    go : (o : Option ℕ) → MatchOption o (IsPair (sums_shown m) (i, h) → Remains (sums_shown m) h i) (YieldsFirstTo (sums_shown m) h i)
-        → MatchOption o (Remains (sums_shown m) h i) (λ j. YieldsFirstTo (sums_shown m) h i j)
-    go None none = none pair
-    go (Some j) some = some
 
 -- whose pair yields to none has its whole group among those that are left
 pub group_left :

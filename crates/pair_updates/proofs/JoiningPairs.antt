@@ -14,10 +14,12 @@ use Rattle.pair_criteria.specs.declared.pair.Pair.{Pair as CodePair}
 use Rattle.pair_updates.proofs.PairLists.{reals_of}
 use Rattle.pair_updates.proofs.Leading.{pairs_real}
 use Rattle.pair_updates.proofs.SameLeads.{each_counted}
+use Rattle.pair_updates.specs.Dropping.{drops_of}
 use Rattle.pair_updates.specs.Leads.{LeadsShown, setting_of_leads, sums_shown}
 use Rattle.pair_updates.specs.Pairs.{HasLcm, IsRealPair, pairs_of, AreIndices}
 use Rattle.pair_updates.specs.Queueing.{are_together}
 use Rattle.pair_updates.specs.Updating.{IsDropBefore, Joining}
+use Rattle.pair_updates.specs.declared.dropped.Dropped.{Dropped}
 
 -- a pair with a later member stands in no list of earlier ones
 pub none_later : (h : ℕ) (x : Pair) (xs : List Pair) → Each (AreIndices h) xs → h ≤ x.1 → count x xs ≡ 0
@@ -218,3 +220,7 @@ module _ (m : LeadsShown) (h : ℕ) (start : List Pair) (drops : List Drop) (wit
             let is : x ≡ (k, h) = is_same_pair-true x (k, h) e in
             inr (ap (λ (p : Pair). p.1) is, subst (IsPair G) (sym is) pair)
         no_others x l false e = j.no_others x (omega (arith, l, same x, none x e))
+
+-- one more is dropped
+pub one_more : (ds es : List Dropped) (d : Dropped) → es ≡ ds ++ (d ∷ []) → drops_of ds ++ (((d.i, d.j), d.k) ∷ []) ≡ drops_of es
+one_more ds es d e = sym (ap drops_of e ∙ map-append (λ (d : Dropped). ((d.i, d.j), d.k)) ds (d ∷ []))

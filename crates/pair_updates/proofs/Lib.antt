@@ -18,6 +18,7 @@ pub mod LeadRows
 pub mod MetPairs
 pub mod ProperDivisors
 pub mod NewFates
+pub mod WordsBelow
 pub mod PassedPairs
 pub mod FirstYields
 pub mod CopiedPairs

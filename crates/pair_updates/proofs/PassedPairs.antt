@@ -1,27 +1,18 @@
 -- Pairs that are passed over by their bits alone
 use Rattle.std.proofs.Common.{List, ap, arith, get_or, inl, inr, length, subst, sym, w64, ℕ, ◌+◌, ◌^◌, ◌<◌, ◌∙◌, ◌≡◌, ◌≤◌, ◌⊎◌}
 use Rattle.std.proofs.lemmas.Bool.{cases_lt}
-use Rattle.std.proofs.lemmas.Nat.{and-not, and_assoc, and_comm}
 use Rattle.std.specs.Int.{bit_not}
-use Rattle.std.specs.Int.Bits.{and_self, and_zero_r}
+use Rattle.std.specs.Int.Bits.{and_self}
 use Rattle.std.specs.Prelude.{bit_and}
-use Rattle.basis_steps.proofs.RuleTests.{yields_first}
+use Rattle.basis_steps.proofs.RuleTests.{yields, yields_first, yields_not}
 use Rattle.basis_steps.specs.Drops.{YieldsTo}
-use Rattle.pair_updates.proofs.MetPairs.{kept_within}
+use Rattle.pair_updates.proofs.MetPairs.{divides_told, kept_same, kept_within}
+use Rattle.pair_updates.proofs.WordsBelow.{tells_within, within_lacks}
 use Rattle.pair_updates.specs.Dropping.{IsPairWithBits}
 use Rattle.pair_updates.specs.FirstYields.{AreActive}
 use Rattle.pair_updates.specs.Leads.{LeadsShown, sums_shown}
-use Rattle.pair_updates.specs.Rows.{EachHasMissing}
+use Rattle.pair_updates.specs.Rows.{EachHasMissing, IsBelow, TellsAll}
 use Rattle.pair_updates.specs.declared.meeting.NewPair.{NewPair}
-
--- a word has none of the bits that it lacks
-none_of_others : (b : ℕ) → b < 2 ^ 64 → bit_and b (bit_not w64 b) ≡ 0
-none_of_others b fits = and_comm b (bit_not w64 b) ∙ omega (arith, and-not 64 b b fits fits, and_self b)
-
--- nor does what is within it
-pub within_lacks : (a b : ℕ) → b < 2 ^ 64 → bit_and a b ≡ a → bit_and a (bit_not w64 b) ≡ 0
-within_lacks a b fits e =
-    ap (λ z. bit_and z (bit_not w64 b)) (sym e) ∙ and_assoc (bit_not w64 b) a b ∙ ap (bit_and a) (none_of_others b fits) ∙ and_zero_r a
 
 -- the pair yields to none of these members from place `from` on and before place k
 abbrev pub YieldsToNone : LeadsShown → NewPair → List ℕ → ℕ → ℕ → Type 0
@@ -59,3 +50,22 @@ module _ (m : LeadsShown) (x : NewPair) (members : List ℕ) (from : ℕ) where
       go (inr q) =
           let e : z ≡ k = omega (arith, lt, q) in
           λ y. not (subst (λ l. YieldsTo (sums_shown m) x.j x.i (get_or members l 0)) e y)
+
+-- in a ring of at most sixteen variables a pair whose word tells all yields to those with words below its own, and to no others
+module _ (m : LeadsShown) (x : NewPair) (few : m.variables ≤ 16) (all : TellsAll x.above) (met : IsPairWithBits m x) (j a : ℕ)
+    (other : IsPairWithBits m (record { i = j; j = x.j; above = a })) where
+  pub yields_below : IsBelow a x.above → YieldsTo (sums_shown m) x.j x.i j
+  yields_below below =
+      let d = divides_told m x.i x.j j a x.above other.above met.above below.0 (tells_within a x.above below.0 all) few
+      (other.pair.position ∙ sym met.pair.position) in
+      yields (sums_shown m) x.j x.i j other.pair.within other.pair.ordered met.pair d
+      (λ e. below.1 (kept_same m x.i x.j j a x.above other.above met.above d e))
+
+  pub below_yielded : YieldsTo (sums_shown m) x.j x.i j → IsBelow a x.above
+  below_yielded y = (
+    kept_within m x.i x.j j a x.above other.above met.above
+        (yields_first (sums_shown m) x.j x.i j other.pair.within other.pair.ordered met.pair y),
+    (λ e. yields_not (sums_shown m) x.j x.i j other.pair.within other.pair.ordered met.pair y
+        (divides_told m j x.j x.i x.above a met.above other.above (ap (bit_and x.above) e ∙ and_self x.above) all few
+        (met.pair.position ∙ sym other.pair.position))),
+  )

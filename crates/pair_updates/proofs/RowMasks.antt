@@ -217,6 +217,12 @@ divisor_row (suc k) nil nil nil h (suc v) lt = divisor_row k nil nil nil h v (om
 divisor_row (suc k) (cons e d) (cons a x) (cons b y) (cons m u, q) zero lt = let one : m + e ≡ max a b = ap head q in omega (arith, one)
 divisor_row (suc k) (cons e d) (cons a x) (cons b y) (cons m u, q) (suc v) lt = divisor_row k d x y (u, ap tail q) v (omega (arith, lt))
 
+-- places of rows that are others
+pub moved : (k a b l x y : List ℕ) (v : ℕ) → k ≡ l → a ≡ x → b ≡ y → get_or l v 0 ≤ max (get_or x v 0) (get_or y v 0)
+    → get_or k v 0 ≤ max (get_or a v 0) (get_or b v 0)
+moved k a b l x y v ek ea eb le =
+    omega (arith, le, ap (λ (z : List ℕ). get_or z v 0) ek, ap (λ (z : List ℕ). get_or z v 0) ea, ap (λ (z : List ℕ). get_or z v 0) eb)
+
 -- and of no more variables than places these are the divisors
 pub row_divisor : (n k : ℕ) (d x y : Exponents n) → n ≤ k
     → ((v : ℕ) → v < k → get_or (row k d) v 0 ≤ max (get_or (row k x) v 0) (get_or (row k y) v 0)) → Divides d (lcm x y)

@@ -44,3 +44,11 @@ TellsAll word = (i : ℕ) → 48 ≤ i → bit_at word i ≡ 0
 -- from this place on, and before `end`, each word has one of the missing bits
 abbrev pub EachHasMissing : List ℕ → ℕ → ℕ → ℕ → Type 0
 EachHasMissing words missing from end = (i : ℕ) → from ≤ i → i < end → bit_and (slice_index words i) missing ≡ 0 → ⊥
+
+-- the one has no bit but the other's, and not all of them
+abbrev pub IsBelow : ℕ → ℕ → Type 0
+IsBelow a b = (bit_and a b ≡ a) × (a ≡ b → ⊥)
+
+-- from this place on, and before `end`, no word is below this one
+abbrev pub EachNotBelow : List ℕ → ℕ → ℕ → ℕ → Type 0
+EachNotBelow words word from end = (i : ℕ) → from ≤ i → i < end → IsBelow (slice_index words i) word → ⊥

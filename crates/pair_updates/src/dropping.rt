@@ -8,12 +8,13 @@ ghost use Rattle.pair_updates.specs.Dropping.{AreNewPairs, IsFate, IsPairWithBit
 ghost use Rattle.pair_updates.specs.FirstYields.{AreFirstYields, HasGroup};
 ghost use Rattle.pair_updates.specs.Leads.{setting_of_leads, sums_shown};
 ghost use Rattle.pair_updates.specs.LeadCriteria.{DividesLcm, ProductSpares};
+ghost use Rattle.pair_updates.specs.Rows.{lead_row};
 ghost use Rattle.pair_updates.specs.declared.dropping.Fate.TheVariants as fates;
 
 use crate::criteria::{divides_lcm, product_spares};
 use crate::leads::Leads;
 use crate::meeting::NewPair;
-use crate::rows::{is_within, tells_all};
+use crate::rows::{divides_rows, is_within, tells_all};
 
 /// What becomes of the pair of an earlier member and a new one.
 #[derive(Clone, Copy)]
@@ -42,6 +43,21 @@ pub(crate) fn leaves_for(leads: &Leads, h: usize, i: usize, j: usize) -> bool
         return false;
     }
     !divides_lcm(leads, j, h, i)
+}
+
+/// The same, where these are the first exponents of the lead of h: by them alone most pairs stay.
+#[inline(always)]
+pub(crate) fn leaves_by_row(leads: &Leads, h: usize, row: &[u16; 16], i: usize, j: usize) -> bool
+    requires pair { IsPair (sums_shown leads.now) (i, j) }
+    requires later { j < h }
+    requires within { h < length leads.now.keys }
+    requires row { row.now ≡ lead_row leads.now h }
+    ensures { IsTrue result ↔ LeavesFor (sums_shown leads.now) h (i, j) }
+{
+    if !divides_rows(row, leads.row(i), leads.row(j)) {
+        return false;
+    }
+    leaves_for(leads, h, i, j)
 }
 
 // Does the lead of j divide the lcm of i and the new member h, where these are the words of their pairs? Most words say no, and in a
@@ -184,44 +200,24 @@ fn fate_in_group(leads: &Leads, news: &[Option<NewPair>], left: &[usize], pair: 
     }
 }
 
-// What becomes of the pair, which yields first to that of this member, where there is one. Else these members have its whole group.
-fn fate_by(
+/// What becomes of the pair of i and the new member h, whose pairs with each earlier member are these, where it yields to none and these
+/// members have its whole group.
+pub(crate) fn fate_of_left(
     leads: &Leads,
     news: &[Option<NewPair>],
-    left: &[usize],
-    pair: &NewPair,
-    first: Option<usize>,
-) -> Fate
-    requires new { IsNewIn leads.now news.now pair.now }
-    requires within { Each (λ c. c < length news.now) left.now }
-    requires group { Remains (sums_shown leads.now) pair.now.j pair.now.i → HasGroup (sums_shown leads.now) pair.now.j pair.now.i left.now }
-    requires first { MatchOption first (Remains (sums_shown leads.now) pair.now.j pair.now.i)
-        (λ j. YieldsFirstTo (sums_shown leads.now) pair.now.j pair.now.i j) }
-    ensures { IsFate (setting_of_leads leads.now.variables leads.now) (sums_shown leads.now) pair.now.j pair.now.i result }
-{
-    match first {
-        Some(j) => Fate::Dropped(j),
-        None => fate_in_group(leads, news, left, pair),
-    }
-}
-
-/// What becomes of the pair of i and the new member h, whose pairs with each earlier member are these, and yield first to those; `left`
-/// has the members whose pairs yield to none.
-pub(crate) fn fate_of(
-    leads: &Leads,
-    news: &[Option<NewPair>],
-    firsts: &[Option<usize>],
     left: &[usize],
     h: usize,
     i: usize,
 ) -> Fate
     requires news { AreNewPairs leads.now h news.now }
-    requires firsts { AreFirstYields leads.now h firsts.now left.now }
+    requires within { Each (λ c. c < h) left.now }
+    requires group { IsPair (sums_shown leads.now) (i, h) → HasGroup (sums_shown leads.now) h i left.now }
+    requires remains { IsPair (sums_shown leads.now) (i, h) → Remains (sums_shown leads.now) h i }
     requires known { i < h }
     ensures { IsFate (setting_of_leads leads.now.variables leads.now) (sums_shown leads.now) h i result }
 {
     match &news[i] {
         None => Fate::Apart,
-        Some(pair) => fate_by(leads, news, left, pair, firsts[i]),
+        Some(pair) => fate_in_group(leads, news, left, pair),
     }
 }

@@ -39,6 +39,7 @@ fn new_pair(leads: &Leads, i: usize, h: usize, position: u64, row: &[u16; 16]) -
 }
 
 /// The pairs of each earlier member and member h, in their order: nothing where the leads stand at two positions.
+#[inline(never)]
 pub(crate) fn pairs_with(
     alloc: Global,
     leads: &Leads,

@@ -2,7 +2,7 @@
 ghost use Rattle.std.specs.Prelude.{ℕ, ◌≡◌, ◌<◌, ◌≤◌, ◌↔◌, ◌-◌, IsTrue, bit_and, length, ltb, max, min, replicate, slice_index};
 ghost use Rattle.std.specs.Simd.Lanes.{Each1, mask_l, zip2};
 ghost use Rattle.monomials.specs.Exponents.{exponents_of};
-ghost use Rattle.pair_updates.specs.Rows.{EachHasMissing, TellsAll, exceeding, row};
+ghost use Rattle.pair_updates.specs.Rows.{EachHasMissing, EachNotBelow, IsBelow, TellsAll, exceeding, row};
 
 use monomial_orders::Mono;
 use std::simd::prelude::*;
@@ -20,6 +20,7 @@ pub(crate) fn row_of(m: &Mono) -> [u16; 16]
 }
 
 /// Is each place of the one at most the greater of the two others? All are looked at, so that no branch is taken.
+#[inline(always)]
 pub(crate) fn divides_rows(k: &[u16; 16], a: &[u16; 16], b: &[u16; 16]) -> bool
     ensures { IsTrue result ↔ ((v : ℕ) → v < 16 → slice_index k.now v ≤ max (slice_index a.now v) (slice_index b.now v)) }
 {
@@ -107,8 +108,9 @@ pub(crate) fn next_within(words: &[u64], from: usize, missing: u64) -> usize
     ensures before { EachHasMissing words.now missing from result }
     ensures found { result < length words.now → bit_and (slice_index words.now result) missing ≡ 0 }
 {
+    let end = words.len().saturating_sub(3);
     let mut i = from;
-    while words.len() - i > 3 {
+    while i < end {
         if words[i] & missing == 0 {
             return i;
         }
@@ -124,4 +126,26 @@ pub(crate) fn next_within(words: &[u64], from: usize, missing: u64) -> usize
         i += 4;
     }
     within_in_turn(words, i, missing)
+}
+
+/// The first word from this place on that has no bit but the given word's, and not all of them; the number of words where there is none.
+pub(crate) fn next_below(words: &[u64], from: usize, word: u64) -> usize
+    requires { from ≤ length words.now }
+    ensures late { from ≤ result }
+    ensures bound { result ≤ length words.now }
+    ensures before { EachNotBelow words.now word from result }
+    ensures found { result < length words.now → IsBelow (slice_index words.now result) word }
+{
+    let mut i = from;
+    while i < words.len() {
+        i = next_within(words, i, !word);
+        if i == words.len() {
+            return i;
+        }
+        if words[i] != word {
+            return i;
+        }
+        i += 1;
+    }
+    i
 }

@@ -3,16 +3,17 @@ ghost use Rattle.std.specs.Prelude.{ℕ, List, ◌≡◌, ◌<◌, ◌≤◌, �
 ghost use Rattle.formal_sums.specs.FormalSums.{Each};
 ghost use Rattle.basis_steps.specs.Pairs.{Drop, Pair as PlainPair};
 ghost use Rattle.basis_steps.specs.Queues.{IsSorted};
-ghost use Rattle.basis_steps.specs.Updates.{Updates};
+ghost use Rattle.basis_steps.specs.Criteria.{IsPair};
+ghost use Rattle.basis_steps.specs.Updates.{Remains, Updates};
 ghost use Rattle.pair_criteria.specs.declared.pair.Pair.{Pair as CodePair};
 ghost use Rattle.pair_updates.specs.Dropping.{AreNewPairs, drops_of};
-ghost use Rattle.pair_updates.specs.FirstYields.{AreFirstYields};
+ghost use Rattle.pair_updates.specs.FirstYields.{AreFirstYields, HasGroup};
 ghost use Rattle.pair_updates.specs.Leads.{setting_of_leads, sums_shown};
 ghost use Rattle.pair_updates.specs.Pairs.{AreIndices, HasLcm, IsRealPair, pairs_of};
 ghost use Rattle.pair_updates.specs.Updating.{Joining, Staying, Updating};
 
 use crate::dropped::Dropped;
-use crate::dropping::{Fate, fate_of, leaves_for};
+use crate::dropping::{Fate, fate_of_left, leaves_by_row, leaves_for};
 use crate::joining::push_pair;
 use crate::leads::Leads;
 use crate::meeting::{NewPair, pairs_with};
@@ -79,9 +80,10 @@ fn count_staying(leads: &Leads, h: usize, pairs: &[Pair]) -> usize
     ensures few { result ≤ length pairs.now }
     ensures staying { (drops : List Drop) → Staying leads.now h (pairs_of pairs.now) drops (take result pairs.now) (drop result pairs.now) drops }
 {
+    let row = *leads.row(h);
     for k in 0..pairs.len() {
         let x = &pairs[k];
-        if leaves_for(leads, h, x.i as usize, x.j as usize) {
+        if leaves_by_row(leads, h, &row, x.i as usize, x.j as usize) {
             return k;
         }
     }
@@ -109,6 +111,49 @@ fn stay(
     Ok(())
 }
 
+// The pair of i and the new member h, which yields to none, is queued or dropped, as the rules say. Few pairs come here, so the loop
+// over all of them is kept free of it.
+#[inline(never)]
+fn join_left(
+    alloc: Global,
+    leads: &Leads,
+    news: &[Option<NewPair>],
+    left: &[usize],
+    h: usize,
+    i: usize,
+    queued: &mut Vec<Pair>,
+    dropped: &mut Vec<Dropped>,
+) -> Result<(), NoMemory>
+    requires within { h < length leads.now.keys }
+    requires known { i < h }
+    requires news { AreNewPairs leads.now h news.now }
+    requires members { Each (λ c. c < h) left.now }
+    requires group { IsPair (sums_shown leads.now) (i, h) → HasGroup (sums_shown leads.now) h i left.now }
+    requires remains { IsPair (sums_shown leads.now) (i, h) → Remains (sums_shown leads.now) h i }
+    requires real { Each (IsRealPair leads.now) queued.old.items }
+    ensures joining { OnOk result ((start : List PlainPair) (drops : List Drop) → Each (AreIndices h) start
+        → Joining leads.now h i start drops queued.old.items (drops_of dropped.old.items)
+        → Joining leads.now h (i + 1) start drops queued.new.items (drops_of dropped.new.items)) }
+    ensures real { OnOk result (Each (IsRealPair leads.now) queued.new.items) }
+{
+    match fate_of_left(leads, news, left, h, i) {
+        Fate::Queued => {
+            push_pair(alloc, leads, i, h, queued)?;
+            Ok(())
+        }
+        Fate::Dropped(k) => {
+            dropped.push(Dropped {
+                i: i as u64,
+                j: h as u64,
+                k: k as u64,
+            })?;
+            Ok(())
+        }
+        Fate::Apart => Ok(()),
+        Fate::Spared => Ok(()),
+    }
+}
+
 // The pair of i and the new member h is queued or dropped, as the rules say.
 fn join_one(
     alloc: Global,
@@ -130,12 +175,8 @@ fn join_one(
         → Joining leads.now h (i + 1) start drops queued.new.items (drops_of dropped.new.items)) }
     ensures real { OnOk result (Each (IsRealPair leads.now) queued.new.items) }
 {
-    match fate_of(leads, news, &yields.firsts, &yields.left, h, i) {
-        Fate::Queued => {
-            push_pair(alloc, leads, i, h, queued)?;
-            Ok(())
-        }
-        Fate::Dropped(k) => {
+    match yields.firsts[i] {
+        Some(k) => {
             dropped.push(Dropped {
                 i: i as u64,
                 j: h as u64,
@@ -143,12 +184,12 @@ fn join_one(
             })?;
             Ok(())
         }
-        Fate::Apart => Ok(()),
-        Fate::Spared => Ok(()),
+        None => join_left(alloc, leads, news, &yields.left, h, i, queued, dropped),
     }
 }
 
 // The new pairs of member h are queued or dropped, as the rules say.
+#[inline(never)]
 fn join(
     alloc: Global,
     leads: &Leads,

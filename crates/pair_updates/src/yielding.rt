@@ -1,14 +1,15 @@
 // To which pair of its new member each new pair yields first (Gebauer and Möller 1988).
-ghost use Rattle.std.specs.Prelude.{IfOk, OnOk, List, MatchOption, None, Option, Some, length, ℕ, ◌+◌, ◌<◌, ◌≡◌};
+ghost use Rattle.std.specs.Prelude.{IfOk, OnOk, List, MatchOption, None, Option, Some, length, ℕ, ◌+◌, ◌<◌, ◌≡◌, ◌≤◌};
 ghost use Rattle.std.specs.Vec.{vec_capacity, vec_len};
 ghost use Rattle.pair_updates.specs.Dropping.{AreNewPairs, IsPairWithBits};
 ghost use Rattle.pair_updates.specs.FirstYields.{AreActive, AreFirstYields, AreLowerYields, AreSettled, IsFirstAmong};
 ghost use Rattle.pair_updates.specs.Leads.{sums_shown};
+ghost use Rattle.pair_updates.specs.Rows.{TellsAll};
 
 use crate::dropping::yields_to;
 use crate::leads::Leads;
 use crate::meeting::NewPair;
-use crate::rows::next_within;
+use crate::rows::{next_below, next_within, tells_all};
 use module_vectors::NoMemory;
 use std::alloc::Global;
 
@@ -42,8 +43,10 @@ impl Drop for Active {
     }
 }
 
-// The first of these members, from index `from` on, to whose pair with the same new one the given pair yields.
-fn first_yield(
+// The first of these members, from index `from` on, to whose pair with the same new one the given pair yields, where exponents may
+// have to be read.
+#[inline(never)]
+fn first_read(
     leads: &Leads,
     pair: &NewPair,
     members: &[usize],
@@ -71,7 +74,50 @@ fn first_yield(
     None
 }
 
+// The same where the pair's word tells all and the ring has at most sixteen variables: then words alone say to which pairs it yields.
+fn first_told(
+    _leads: &Leads,
+    pair: &NewPair,
+    members: &[usize],
+    above: &[u64],
+    from: usize,
+) -> Option<usize>
+    requires pair { IsPairWithBits _leads.now pair.now }
+    requires active { AreActive _leads.now pair.now.j members.now above.now }
+    requires from { from ≤ length members.now }
+    requires all { TellsAll pair.now.above }
+    requires few { _leads.now.variables ≤ 16 }
+    ensures { IsFirstAmong (sums_shown _leads.now) pair.now.j pair.now.i members.now from result }
+{
+    let k = next_below(above, from, pair.above);
+    if k == members.len() {
+        return None;
+    }
+    Some(members[k])
+}
+
+// The first of these members, from index `from` on, to whose pair with the same new one the given pair yields.
+#[inline(always)]
+fn first_yield(
+    leads: &Leads,
+    pair: &NewPair,
+    members: &[usize],
+    above: &[u64],
+    from: usize,
+) -> Option<usize>
+    requires pair { IsPairWithBits leads.now pair.now }
+    requires active { AreActive leads.now pair.now.j members.now above.now }
+    requires from { from ≤ length members.now }
+    ensures { IsFirstAmong (sums_shown leads.now) pair.now.j pair.now.i members.now from result }
+{
+    if tells_all(pair.above) && leads.weights().len() <= 16 {
+        return first_told(leads, pair, members, above, from);
+    }
+    first_read(leads, pair, members, above, from)
+}
+
 // The first of the active members, from index `from` on, to whose pair that of i yields.
+#[inline(always)]
 fn first_among(
     leads: &Leads,
     news: &[Option<NewPair>],
@@ -82,6 +128,7 @@ fn first_among(
     requires known { i < length news.now }
     requires news { AreNewPairs leads.now (length news.now) news.now }
     requires active { AreActive leads.now (length news.now) active.now.members.items active.now.above.items }
+    requires from { from ≤ length active.now.members.items }
     ensures { IsFirstAmong (sums_shown leads.now) (length news.now) i active.now.members.items from result }
 {
     match &news[i] {
@@ -159,6 +206,7 @@ fn look_above(
 
 /// For the pair of each earlier member the first member to whose pair with the new one it yields. Where it yields to a lower one, no
 /// other pair is asked whether it yields to it: what does yields to that of the lower one too.
+#[inline(never)]
 pub(crate) fn first_yields(
     alloc: Global,
     leads: &Leads,
@@ -168,16 +216,17 @@ pub(crate) fn first_yields(
     ensures { IfOk result (λ yields. AreFirstYields leads.now (length news.now) yields.firsts.items yields.left.items) }
 {
     let mut firsts = Vec::with_capacity(alloc, news.len())?;
+    // Room for all is made at once: lists that grow on the way are copied several times.
     let mut active = Active {
-        members: Vec::new(alloc),
-        above: Vec::new(alloc),
+        members: Vec::with_capacity(alloc, news.len())?,
+        above: Vec::with_capacity(alloc, news.len())?,
     };
     for i in 0..news.len() {
         look_below(leads, news, i, &mut firsts, &mut active)?;
     }
     let mut yields = FirstYields {
         firsts,
-        left: Vec::new(alloc),
+        left: Vec::with_capacity(alloc, active.members.len())?,
     };
     for k in 0..active.members.len() {
         look_above(leads, news, &active, k, &mut yields)?;

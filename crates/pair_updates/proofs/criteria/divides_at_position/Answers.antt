@@ -1,17 +1,11 @@
-use Rattle.std.proofs.Common.{List, ap, arith, get_or, length, max, refl, sym, ℕ, ◌∙◌, ◌≡◌, ◌≤◌}
+use Rattle.std.proofs.Common.{ap, arith, length, refl, sym, ◌∙◌}
 use Rattle.std.proofs.lemmas.Bool.{false≢true}
 use Rattle.formal_sums.specs.FormalSums.{Key}
 use Rattle.bases.specs.Leads.{leads}
 use Rattle.pair_updates.proofs.CriterionTests.{join_is, not_true}
-use Rattle.pair_updates.proofs.RowMasks.{divisor_row, row_divisor}
+use Rattle.pair_updates.proofs.RowMasks.{divisor_row, moved, row_divisor}
 use Rattle.pair_updates.specs.Leads.{sums_shown}
 use Rattle.pair_updates.proofs.criteria.divides_at_position.Goals as goal
-
--- places of rows that are others
-moved : (k a b l x y : List ℕ) (v : ℕ) → k ≡ l → a ≡ x → b ≡ y → get_or l v 0 ≤ max (get_or x v 0) (get_or y v 0)
-    → get_or k v 0 ≤ max (get_or a v 0) (get_or b v 0)
-moved k a b l x y v ek ea eb le =
-    omega (arith, le, ap (λ (z : List ℕ). get_or z v 0) ek, ap (λ (z : List ℕ). get_or z v 0) ea, ap (λ (z : List ℕ). get_or z v 0) eb)
 
 pub returns-then-not-divides_rows : goal.returns-then-not-divides_rows
 returns-then-not-divides_rows c =

@@ -20,8 +20,8 @@ loop-k-init c = λ drops.
 behind : (q : List CodePair) (k : ℕ) (x : CodePair) → k < length q → x ≡ get_or q k x → drop k q ≡ x ∷ drop (k + 1) q
 behind q k x lt is = drop_more q k x lt ∙ ap (λ z. z ∷ drop (k + 1) q) (sym is)
 
-pub leaves_for-requires-clause-later : goal.leaves_for-requires-clause-later
-leaves_for-requires-clause-later c =
+pub leaves_by_row-requires-clause-later : goal.leaves_by_row-requires-clause-later
+leaves_by_row-requires-clause-later c =
     let m = c.args.leads.now in
     let q : List CodePair = c.args.pairs.now in
     let k = c.loop-k.k in
@@ -40,4 +40,4 @@ loop-k-preserved c = λ drops.
     (c.loop-k.invariant drops) in
     let more : take (k + 1) q ≡ take k q ++ (x ∷ []) = take_more q k x c.loop-k-test.true ∙ ap (λ z. take k q ++ (z ∷ [])) (sym c.index-pairs-k.is) in
     subst (λ (l : List CodePair). Staying m c.args.h (pairs_of q) drops l (drop (k + 1) q) drops) (sym more)
-    (one_stays m c.args.h (pairs_of q) drops (take k q) x (drop (k + 1) q) drops s (λ l. not_true _ c.if-leaves_for.false (c.leaves_for.ensures.1 l)))
+    (one_stays m c.args.h (pairs_of q) drops (take k q) x (drop (k + 1) q) drops s (λ l. not_true _ c.if-leaves_by_row.false (c.leaves_by_row.ensures.1 l)))

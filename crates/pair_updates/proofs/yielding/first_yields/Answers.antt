@@ -22,7 +22,7 @@ loop-k-init c =
         c.loop-i.firsts.items,
         (
           whole,
-          subst (λ (l : List ℕ). AreSettled m h c.loop-i.active.members.items 0 c.loop-i.firsts.items l) (sym c.new-3.ensures.items)
+          subst (λ (l : List ℕ). AreSettled m h c.loop-i.active.members.items 0 c.loop-i.firsts.items l) (sym c.in_ok-with_capacity-3.ensures.items)
               (settled_first m h c.args.news.now c.loop-i.firsts.items c.loop-i.active.members.items c.requires whole),
         ),
       );

@@ -1,7 +1,7 @@
 use Rattle.std.proofs.Common.{arith, refl}
 use Rattle.pair_updates.proofs.CriterionTests.{not_true}
 use Rattle.pair_updates.proofs.PassedPairs.{none_more, passed}
-use Rattle.pair_updates.proofs.yielding.first_yield.Goals as goal
+use Rattle.pair_updates.proofs.yielding.first_read.Goals as goal
 
 pub returns-then-k-above : goal.returns-then-k-above
 returns-then-k-above c =

@@ -1,6 +1,6 @@
 use Rattle.std.proofs.Common.{length, ◌-◌, ◌≤◌}
 use Rattle.pair_updates.proofs.PassedPairs.{YieldsToNone}
-use Rattle.pair_updates.proofs.yielding.first_yield.Given as goal
+use Rattle.pair_updates.proofs.yielding.first_read.Given as goal
 
 abbrev pub invariant-loop-k : goal.invariant-loop-k
 invariant-loop-k l = record {
