@@ -101,6 +101,7 @@ fn within_in_turn(words: &[u64], from: usize, missing: u64) -> usize
 
 /// The first word from this place on that has none of the missing bits; the number of words where there is none. Most words have one,
 /// and there are many: so the loop looks at four in each turn.
+#[inline(always)]
 pub(crate) fn next_within(words: &[u64], from: usize, missing: u64) -> usize
     requires { from ≤ length words.now }
     ensures late { from ≤ result }
@@ -129,6 +130,7 @@ pub(crate) fn next_within(words: &[u64], from: usize, missing: u64) -> usize
 }
 
 /// The first word from this place on that has no bit but the given word's, and not all of them; the number of words where there is none.
+#[inline(always)]
 pub(crate) fn next_below(words: &[u64], from: usize, word: u64) -> usize
     requires { from ≤ length words.now }
     ensures late { from ≤ result }

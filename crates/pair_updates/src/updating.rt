@@ -188,7 +188,8 @@ fn join_one(
     }
 }
 
-// The new pairs of member h are queued or dropped, as the rules say.
+// The new pairs of member h are queued or dropped, as the rules say. A call, as are those that it makes ahead of its loop: each of the
+// three loops over all pairs then has the registers for itself.
 #[inline(never)]
 fn join(
     alloc: Global,

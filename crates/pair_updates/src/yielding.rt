@@ -75,6 +75,7 @@ fn first_read(
 }
 
 // The same where the pair's word tells all and the ring has at most sixteen variables: then words alone say to which pairs it yields.
+#[inline(always)]
 fn first_told(
     _leads: &Leads,
     pair: &NewPair,
