@@ -17,10 +17,11 @@ returns-in_ok-push-in-Some-clause-joining c = λ start drops within j.
     let h = c.args.h in
     let i = c.args.i in
     let k = c.in-Some.k in
-    let at = get_or_default c.args.yields.now.firsts.items i None c.index.result.now (omega (arith, c.requires.known, c.requires.yields.len)) ∙ sym c.index.ensures in
+    let firsts = c.args.yields.now.firsts.items in
+    let at = get_or_default firsts i None c.index.result.now (omega (arith, c.requires.known, c.requires.yields.len)) ∙ sym c.index.ensures in
     let y : YieldsFirstTo (sums_shown m) h i k =
-    subst (λ (o : Option ℕ). MatchOption o (IsPair (sums_shown m) (i, h) → Remains (sums_shown m) h i) (YieldsFirstTo (sums_shown m) h i)) (at ∙ c.in-Some.is)
-    (c.requires.yields.each i c.requires.known) in
+    subst (λ (o : Option ℕ). MatchOption o (IsPair (sums_shown m) (i, h) → Remains (sums_shown m) h i) (YieldsFirstTo (sums_shown m) h i))
+    (at ∙ c.in-Some.is) (c.requires.yields.each i c.requires.known) in
     subst (λ (ds : List Drop). Joining m h (i + 1) start drops c.args.queued.now.items ds)
     (one_more c.args.dropped.now.items c.push.new.self.items (record { i = i; j = h; k = k }) c.in_ok-push-in-Some.ensures.items)
     (dropped_joins m h start drops within i c.requires.known c.args.queued.now.items (drops_of c.args.dropped.now.items) j k
