@@ -1,1 +1,2 @@
 pub mod Plus
+pub mod Gathering

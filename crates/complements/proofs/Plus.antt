@@ -31,12 +31,13 @@ module _ (ring : Ring) (columns : List (List (CodeKey × ℕ))) where
   pub plus_nothing : (v : List (CodeKey × ℕ)) → IsComplement ring columns v v
   plus_nothing v = record { factors = []; sum = IsSame_of ring.modulus.value _ _ (sym (append-nil (sum_of (variables ring) v))) }
 
-  pub plus_one :
-      (v w u a : List (CodeKey × ℕ)) → StandsFor ring w (combination (sums_of (variables ring) columns) (sum_of (variables ring) a))
-      → StandsFor ring u (sum_of (variables ring) v ++ sum_of (variables ring) w) → IsComplement ring columns v u
-  plus_one v w u a h e = record {
-    factors = sum_of (variables ring) a;
-    sum = IsSame_trans e (IsSame_append (IsSame_refl ring.modulus.value (sum_of (variables ring) v)) h);
+  -- a combination is added
+  pub plus_sum :
+      (v w u : List (CodeKey × ℕ)) → IsComplement ring columns [] w → StandsFor ring u (sum_of (variables ring) v ++ sum_of (variables ring) w)
+      → IsComplement ring columns v u
+  plus_sum v w u h e = record {
+    factors = h.factors;
+    sum = IsSame_trans e (IsSame_append (IsSame_refl ring.modulus.value (sum_of (variables ring) v)) h.sum);
   }
 
   pub plus_more : (v u w : List (CodeKey × ℕ)) → IsComplement ring columns v u → IsComplement ring columns u w → IsComplement ring columns v w

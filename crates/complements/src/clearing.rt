@@ -1,12 +1,15 @@
 // Vectors plus combinations of columns.
-ghost use Rattle.std.specs.Prelude.{◌++◌, IfOk, length};
+ghost use Rattle.std.specs.Prelude.{◌++◌, IfOk, OnOk, length};
 ghost use Rattle.formal_sums.specs.Combinations.{combination};
 ghost use Rattle.term_lists.specs.Rings.{ring_comparison, variables};
 ghost use Rattle.term_lists.specs.Vectors.{AreVectorsOver, IsVectorOver, sum_of, sums_of};
+ghost use Rattle.complements.specs.Combining.{IsCleared};
 ghost use Rattle.complements.specs.Complements.{AreComplements, IsComplement};
 
+use crate::accumulator::{Accumulator, no_sums};
 use crate::elimination::{Elimination, Work, eliminated};
 use crate::factors::factors_at;
+use crate::numbered::combination_of;
 use crate::sums::Sums;
 use module_vectors::{NoMemory, Ring, Vect, VectList, VectStop, lawful_setting};
 use std::alloc::Global;
@@ -18,18 +21,21 @@ fn with_combination(
     columns: &VectList,
     factors: &Vect,
     v: Vect,
+    accumulator: &mut Accumulator,
 ) -> Result<Vect, VectStop>
     requires columns { AreVectorsOver ring.now (ring_comparison ring.now) columns.now }
     requires factors { IsVectorOver ring.now (ring_comparison ring.now) factors.now }
     requires vector { IsVectorOver ring.now (ring_comparison ring.now) v }
+    requires cleared { IsCleared ring.now columns.now accumulator.old }
     ensures vector { IfOk result (IsVectorOver ring.now (ring_comparison ring.now)) }
     ensures sum { IfOk result (IsComplement ring.now columns.now v) }
+    ensures cleared { OnOk result (IsCleared ring.now columns.now accumulator.new) }
 {
     lawful_setting(ring);
     if factors.terms().is_empty() || !factors.has_positions(columns.len() as u128) {
         return Ok(v);
     }
-    let sum = Vect::combine(alloc, ring, factors, columns)?;
+    let sum = combination_of(alloc, ring, columns, factors, accumulator)?;
     let mut out = v;
     out.add(alloc, ring, sum)?;
     Ok(out)
@@ -43,11 +49,14 @@ fn complement(
     elimination: &Elimination,
     v: Vect,
     work: &mut Work,
+    accumulator: &mut Accumulator,
 ) -> Result<Vect, VectStop>
     requires columns { AreVectorsOver ring.now (ring_comparison ring.now) columns.now }
     requires vector { IsVectorOver ring.now (ring_comparison ring.now) v }
+    requires cleared { IsCleared ring.now columns.now accumulator.old }
     ensures vector { IfOk result (IsVectorOver ring.now (ring_comparison ring.now)) }
     ensures sum { IfOk result (IsComplement ring.now columns.now v) }
+    ensures cleared { OnOk result (IsCleared ring.now columns.now accumulator.new) }
 {
     lawful_setting(ring);
     let mut out = v;
@@ -63,7 +72,7 @@ fn complement(
             &out,
             work,
         )?;
-        match with_combination(alloc, ring, columns, &factors, out) {
+        match with_combination(alloc, ring, columns, &factors, out, accumulator) {
             Ok(sum) => out = sum,
             Err(stop) => return Err(stop),
         }
@@ -101,10 +110,19 @@ pub fn complements(
         degrees,
         &mut work,
     )?;
+    let mut accumulator = no_sums(alloc, ring, columns.as_slice())?;
     let mut all = Vec::with_capacity(alloc, vectors.len())?;
     for v in vectors {
         let copy = v.try_copy(alloc)?;
-        match complement(alloc, ring, columns, &elimination, copy, &mut work) {
+        match complement(
+            alloc,
+            ring,
+            columns,
+            &elimination,
+            copy,
+            &mut work,
+            &mut accumulator,
+        ) {
             Ok(sum) => all.push(sum)?,
             Err(stop) => return Err(stop),
         }

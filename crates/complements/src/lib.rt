@@ -4,9 +4,11 @@
 //! the columns that takes its entries in the rows away, and its cofactors are found by residues alone, degree by degree.
 #![tactic(auto)]
 
+mod accumulator;
 mod clearing;
 mod elimination;
 mod factors;
+mod numbered;
 mod sums;
 
 pub use clearing::complements;

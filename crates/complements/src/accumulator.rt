@@ -1,0 +1,53 @@
+// Keys by their numbers, and a sum of residues for each.
+ghost use Rattle.std.specs.Prelude.{IfOk};
+ghost use Rattle.complements.specs.Combining.{HaveColumnHashes, IsCleared};
+
+use module_vectors::{NoMemory, Ring, Vect};
+use row_matrix::{KeyTable, TermHashes};
+use std::alloc::Global;
+
+/// Numbers of keys, for each the sum of what was added to it, and the numbers of those sums that may not be 0; besides these the
+/// hashes of the columns' keys, once they are needed.
+pub(crate) struct Accumulator {
+    pub(crate) numbers: KeyTable,
+    pub(crate) sums: Vec<u64>,
+    pub(crate) touched: Vec<u32>,
+    pub(crate) hashes: Vec<TermHashes>,
+}
+
+// By hand, so that each drop of one is a call.
+impl Drop for Accumulator {
+    fn drop(self) {
+        let Accumulator {
+            numbers: _,
+            sums: _,
+            touched: _,
+            hashes: _,
+        } = self;
+    }
+}
+
+/// No key has a number yet.
+pub(crate) fn no_sums(alloc: Global, ring: &Ring, columns: &[Vect]) -> Result<Accumulator, NoMemory>
+    ensures { IfOk result (IsCleared ring.now columns.now) }
+{
+    let _ring = ring;
+    let _columns = columns;
+    Ok(Accumulator {
+        numbers: KeyTable::new(alloc)?,
+        sums: Vec::new(alloc),
+        touched: Vec::new(alloc),
+        hashes: Vec::new(alloc),
+    })
+}
+
+/// The hashes of each column's keys.
+pub(crate) fn column_hashes(alloc: Global, columns: &[Vect]) -> Result<Vec<TermHashes>, NoMemory>
+    ensures { IfOk result (λ hashes. HaveColumnHashes columns.now hashes.items) }
+{
+    let mut hashes = Vec::with_capacity(alloc, columns.len())?;
+    for column in columns {
+        hashes.push_reserved(TermHashes::of(alloc, column.terms())?);
+    }
+    Ok(hashes)
+}
