@@ -1,10 +1,12 @@
 -- Sums of products of columns, and the terms that they stand for
-use Rattle.std.proofs.Common.{List, [], ap, arith, get_or, length, subst, sym, ℕ, ◌*◌, ◌+◌, ◌++◌, ◌-◌, ◌<◌, ◌∙◌, ◌∷◌, ◌≡◌}
-use Rattle.std.proofs.lemmas.List.{map-append}
+use Rattle.std.proofs.Common.{List, [], ap, arith, get_or, get_or-set_other, inl, inr, length, refl, set, subst, sym, ℕ, ◌*◌, ◌+◌, ◌++◌, ◌-◌, ◌<◌, ◌∙◌, ◌∷◌, ◌≡◌, ◌⊎◌}
+use Rattle.std.specs.Prelude.{Contains}
+use Rattle.std.proofs.lemmas.Bool.{cases_eq}
+use Rattle.std.proofs.lemmas.List.{get_or-set_same, length-set, map-append}
 use Rattle.residues.proofs.Congruences.{IsCongruent_of, IsCongruent_trans}
 use Rattle.monomials.specs.Exponents.{unit}
 use Rattle.formal_sums.proofs.Combining.{combination-scale}
-use Rattle.formal_sums.proofs.Sameness.{IsSame_of, IsSame_sym, IsSame_trans}
+use Rattle.formal_sums.proofs.Sameness.{IsSame_of, IsSame_refl, IsSame_sym, IsSame_trans}
 use Rattle.formal_sums.proofs.TakenAway.{taken_away}
 use Rattle.formal_sums.proofs.WeightedSums.{Each_append, coefficient-append}
 use Rattle.formal_sums.specs.Combinations.{combination}
@@ -16,9 +18,10 @@ use Rattle.term_lists.specs.declared.ring.Ring.{Ring}
 use Rattle.row_matrix.specs.Hashes.{no_key}
 use Rattle.row_matrix.specs.Rows.{column_key}
 use Rattle.numbered_sums.proofs.NumberedSums.{idle_small, idle_sums, idle_untouched}
-use Rattle.numbered_sums.specs.KeySums.{AreTouched, AreZeroSums}
+use Rattle.numbered_sums.specs.KeySums.{AreTouched, AreZeroSums, numbered_sum}
+use Rattle.remainders.proofs.Leaving.{left_more}
 use Rattle.remainders.specs.Leaving.{AreTakenAway}
-use Rattle.complements.specs.Combining.{AreTermsOfSums, IsTermTaken}
+use Rattle.complements.specs.Combining.{AreTermsBeside, AreTermsOfSums, IsSumTaken, IsTermTaken}
 use Rattle.complements.specs.Complements.{IsComplement}
 
 abbrev Terms : Type 0
@@ -61,6 +64,35 @@ module _ (ring : Ring) (keys : List CodeKey) (number : ℕ) (old : Terms) where
         terms = λ h. Each_append _ old ((key, residue) ∷ []) h ((over, lt), tt);
         sum = IsSame_of ring.modulus.value _ _ more;
       }
+
+module _ (ring : Ring) (keys : List CodeKey) where
+  -- nothing is a term yet
+  pub beside_start : (sums : List ℕ) → AreTermsBeside ring keys sums sums []
+  beside_start sums = record { count = refl; over = tt; sum = IsSame_refl ring.modulus.value (numbered_sum (column_key (variables ring) keys) 0 sums) }
+
+  -- one sum more goes over to the terms
+  pub beside_more :
+      (number : ℕ) (start sums left : List ℕ) (old new : Terms) → AreTermsBeside ring keys start sums old → IsSumTaken ring keys number sums left old new
+      → AreTermsBeside ring keys start left new
+  beside_more number start sums left old new h t =
+      let n = variables ring in
+      let K = column_key n keys in
+      subst (λ xs. AreTermsBeside ring keys start xs new) (sym t.zero)
+      (record {
+        count = length-set sums number 0 ∙ h.count;
+        over = t.term.terms h.over;
+        sum = left_more K number t.residue sums (numbered_sum K 0 start) (sum_of n old) (sum_of n new) t.within t.congruent h.sum t.term.sum;
+      })
+
+  -- a touched sum that is set to 0
+  pub still_touched :
+      (number : ℕ) (touched sums left : List ℕ) (old new : Terms) → AreTouched touched sums → IsSumTaken ring keys number sums left old new → AreTouched touched left
+  still_touched number touched sums left old new h t = subst (AreTouched touched) (sym t.zero) (λ i l. go i l (cases_eq i number))
+    where
+      go : (i : ℕ) → i < length (set sums number 0) → (i ≡ number) ⊎ (i ≡ number → ⊥) → (get_or (set sums number 0) i 0 ≡ 0) ⊎ Contains touched i
+      go i l (inl e) = inl (ap (λ j. get_or (set sums number 0) j 0) e ∙ get_or-set_same sums number 0 0 t.within)
+      go i l (inr ne) =
+          subst (λ x. (x ≡ 0) ⊎ Contains touched i) (sym (get_or-set_other sums number i 0 0 ne)) (h i (omega (arith, l, length-set sums number 0)))
 
 module _ (ring : Ring) (columns : List Terms) (keys : List CodeKey) where
   abbrev F : List (FormalSum (variables ring))

@@ -1,5 +1,6 @@
 -- Combinations of columns by numbers of keys (Faugère 1999, section 2)
-use Rattle.std.specs.Prelude.{List, [], get_or, length, ℕ, ◌++◌, ◌<◌, ◌∷◌, ◌≡◌}
+use Rattle.std.specs.Prelude.{List, [], get_or, length, set, ℕ, ◌++◌, ◌<◌, ◌∷◌, ◌≡◌}
+use Rattle.residues.specs.Residues.{IsCongruent}
 use Rattle.formal_sums.specs.FormalSums.{IsSame}
 use Rattle.term_lists.specs.Rings.{variables}
 use Rattle.term_lists.specs.Vectors.{AreTermsOver, sum_of}
@@ -36,6 +37,23 @@ pub record IsTermTaken (ring : Ring) (keys : List CodeKey) (number residue : ℕ
   pub sum :
       let n = variables ring in
       IsSame ring.modulus.value (sum_of n new) (sum_of n old ++ (column_key n keys number, residue) ∷ [])
+
+-- the sum with this number is 0 now, and its residue stands with its key among the terms
+pub record IsSumTaken (ring : Ring) (keys : List CodeKey) (number : ℕ) (sums left : List ℕ) (old new : List (CodeKey × ℕ)) : Type 0 where
+  pub within : number < length sums
+  pub residue : ℕ
+  pub congruent : IsCongruent ring.modulus.value (get_or sums number 0) residue
+  pub zero : left ≡ set sums number 0
+  pub term : IsTermTaken ring keys number residue old new
+
+-- what the sums stood for are these terms and what is left of the sums
+pub record AreTermsBeside (ring : Ring) (keys : List CodeKey) (sums left : List ℕ) (terms : List (CodeKey × ℕ)) : Type 0 where
+  pub count : length left ≡ length sums
+  pub over : AreTermsOver ring terms
+  pub sum :
+      let n = variables ring in
+      let K = column_key n keys in
+      IsSame ring.modulus.value (numbered_sum K 0 sums) (sum_of n terms ++ numbered_sum K 0 left)
 
 -- these terms are what the sums stand for
 pub record AreTermsOfSums (ring : Ring) (keys : List CodeKey) (sums : List ℕ) (terms : List (CodeKey × ℕ)) : Type 0 where

@@ -1,7 +1,7 @@
 // Combinations of columns by numbers of keys.
 //
 // The products of the factors are added to one sum of residues for each key. What is not 0 at the end is put in order once.
-ghost use Rattle.std.specs.Prelude.{◌≡◌, ◌<◌, [], IfOk, IfSome, OnOk, length};
+ghost use Rattle.std.specs.Prelude.{◌≡◌, ◌<◌, [], IfOk, IfSome, IsTrue, OnOk, length};
 ghost use Rattle.formal_sums.specs.FormalSums.{Each};
 ghost use Rattle.term_lists.specs.Rings.{ring_comparison, variables};
 ghost use Rattle.term_lists.specs.Vectors.{AreVectorsOver, HasPositions, IsMonomialOver, IsTerm, IsVectorOver};
@@ -9,11 +9,11 @@ ghost use Rattle.vector_division.specs.Progress.{AreWeighed};
 ghost use Rattle.row_matrix.specs.Rows.{AreKeys};
 ghost use Rattle.numbered_sums.specs.KeySums.{AreTouched, AreZeroSums};
 ghost use Rattle.numbered_sums.specs.ProductEntries.{AreReduced};
-ghost use Rattle.complements.specs.Combining.{AreGathered, AreTermsOfSums, IsCleared, IsTermTaken};
+ghost use Rattle.complements.specs.Combining.{AreGathered, AreTermsOfSums, IsCleared, IsSumTaken, IsTermTaken};
 ghost use Rattle.complements.specs.Complements.{IsComplement};
 
 use crate::accumulator::{Accumulator, column_hashes, no_sums};
-use module_vectors::{Key, NoMemory, Ring, Vect, VectList, VectStop, lawful_setting};
+use module_vectors::{Frame, Key, NoMemory, Ring, Vect, VectList, VectStop, lawful_setting};
 use numbered_sums::{add_multiple, numbered_product, residue_at};
 use row_matrix::{KeyTable, ProductStop};
 use std::alloc::Global;
@@ -21,7 +21,9 @@ use std::alloc::Global;
 // With more keys than these a table is given up for a new one.
 const MOST_KEYS: usize = 1 << 18;
 
-// A combination of fewer terms than these is made from the terms themselves.
+// A combination of fewer products, or of fewer terms in them, is made from the terms themselves.
+const FEWEST_PRODUCTS: usize = 4;
+
 const FEWEST_TERMS: usize = 64;
 
 // Adds the product of the factor and its column to the sums.
@@ -108,6 +110,51 @@ fn push_term(
     Ok(())
 }
 
+// The touched numbers, each behind the hint of its key, mostly the greatest key first: then the terms stand in order as they come.
+// That is not proved, since terms in another order are put in order later.
+fn ordered_numbers(
+    alloc: Global,
+    ring: &Ring,
+    numbers: &KeyTable,
+    touched: &[u32],
+) -> Result<Vec<(u64, u32)>, NoMemory> {
+    let keys = numbers.keys();
+    let mut hinted = Vec::with_capacity(alloc, touched.len())?;
+    for number in touched {
+        let at = *number as usize;
+        if at < keys.len() {
+            hinted.push((ring.hint(&keys[at]), *number))?;
+        }
+    }
+    hinted.sort_unstable_by(|left, right| right.0.cmp(&left.0));
+    Ok(hinted)
+}
+
+// The term of the sum with this number, which is set to 0, goes behind the others. Is there such a sum?
+fn take_term(
+    alloc: Global,
+    ring: &Ring,
+    numbers: &KeyTable,
+    number: u32,
+    sums: &mut Vec<u64>,
+    terms: &mut Vec<(Key, u32)>,
+) -> Result<bool, NoMemory>
+    requires keys { AreKeys (variables ring.now) ring.now.weights numbers.now }
+    requires count { length sums.old.items ≡ length numbers.now }
+    ensures { IfOk result (λ there. IsTrue there → IsSumTaken ring.now numbers.now number sums.old.items sums.new.items terms.old.items terms.new.items) }
+{
+    let modulus = &ring.modulus;
+    modulus.domain();
+    let at = number as usize;
+    if at >= sums.len() {
+        return Ok(false);
+    }
+    let residue = residue_at(modulus, sums.as_slice(), number);
+    push_term(alloc, ring, numbers, at, residue, terms)?;
+    sums[at] = 0;
+    Ok(true)
+}
+
 // The terms of the touched sums, which are set to 0; none where a number has no sum.
 fn terms_of_sums(
     alloc: Global,
@@ -121,19 +168,20 @@ fn terms_of_sums(
     requires touched { AreTouched touched.now sums.old.items }
     ensures terms { IfOk result (λ made. IfSome made (λ terms. AreTermsOfSums ring.now numbers.now sums.old.items terms.items)) }
     ensures zero { IfOk result (λ made. IfSome made (λ _. AreZeroSums sums.new.items)) }
-    ensures count { OnOk result (length sums.new.items ≡ length sums.old.items) }
+    ensures count { IfOk result (λ made. IfSome made (λ _. length sums.new.items ≡ length sums.old.items)) }
 {
-    let modulus = &ring.modulus;
-    modulus.domain();
+    let hinted = ordered_numbers(alloc, ring, numbers, touched)?;
     let mut terms = Vec::with_capacity(alloc, touched.len())?;
-    for number in touched {
-        let at = *number as usize;
-        if at >= sums.len() {
+    for one in &hinted {
+        if !take_term(alloc, ring, numbers, one.1, sums, &mut terms)? {
             return Ok(None);
         }
-        let residue = residue_at(modulus, sums.as_slice(), *number);
-        push_term(alloc, ring, numbers, at, residue, &mut terms)?;
-        sums[at] = 0;
+    }
+    // Nothing is left by now. By this pass it is proved so whatever the order was.
+    for number in touched {
+        if !take_term(alloc, ring, numbers, *number, sums, &mut terms)? {
+            return Ok(None);
+        }
     }
     Ok(Some(terms))
 }
@@ -261,8 +309,11 @@ fn by_terms(
     Vect::combine(alloc, ring, factors, columns)
 }
 
-// Have the factors' products few terms?
+// Are the factors' products few, or have they few terms?
 fn has_few_terms(columns: &[Vect], factors: &[(Key, u32)]) -> bool {
+    if factors.len() < FEWEST_PRODUCTS {
+        return true;
+    }
     let mut count: usize = 0;
     for factor in factors {
         let at = factor.0.position;
