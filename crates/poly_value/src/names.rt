@@ -1,10 +1,27 @@
 //! The places of names, and the weights of the variables that they stand for.
 
-ghost use Rattle.std.specs.Prelude.{◌≡◌};
+ghost use Rattle.std.specs.Cmp.Lexicographic.{pointwise};
+ghost use Rattle.std.specs.Prelude.{◌≡◌, nat_eq};
 ghost use Rattle.poly_value.specs.Values.{place_of};
 
 use module_vectors::{Names, Ring};
 use poly_grammar::NameWeights;
+
+// Are the two one text? Names of variables mostly differ at the end, where they are compared first.
+fn is_text(name: &[u8], text: &[u8]) -> bool
+    ensures { result ≡ pointwise nat_eq name.now text.now }
+{
+    let count = name.len();
+    if count > 0 && count == text.len() {
+        if name[count - 1] != text[count - 1] {
+            return false;
+        }
+        if count == 1 {
+            return true;
+        }
+    }
+    name == text
+}
 
 /// The place, from 0, at which the text stands first among the names, or none exactly where it does not.
 pub fn place(names: &Names, text: &[u8]) -> Option<usize>
@@ -12,7 +29,7 @@ pub fn place(names: &Names, text: &[u8]) -> Option<usize>
 {
     let all = names.as_slice();
     for i in 0..all.len() {
-        if all[i].as_bytes() == text {
+        if is_text(all[i].as_bytes(), text) {
             return Some(i);
         }
     }

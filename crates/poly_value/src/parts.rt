@@ -2,7 +2,7 @@
 //!
 //! A sum is brought to normal form where it is multiplied. Products and powers are those of a degree of at most 65,535.
 
-ghost use Rattle.std.specs.Prelude.{◌≡◌, ◌-◌, ◌<◌, IfOk};
+ghost use Rattle.std.specs.Prelude.{◌≡◌, ◌-◌, ◌<◌, ◌∷◌, [], false, IfOk, IfSome, IsTrue};
 ghost use Rattle.monomials.specs.Exponents.{unit};
 ghost use Rattle.formal_sums.specs.FormalSums.{Each, FormalSum, product, scale};
 ghost use Rattle.term_lists.specs.Multiples.{rescaled};
@@ -100,6 +100,56 @@ pub fn variable_part<F: Frame>(
     Ok(terms)
 }
 
+// The product of two terms; none where its degree is above 65,535, or there is no memory.
+fn term_product<F: Frame>(
+    alloc: Global,
+    frame: &F,
+    left: &(Key, u32),
+    right: &(Key, u32),
+) -> Option<(Key, u32)>
+    requires left { IsSum (F.over frame.now) (left.now ∷ []) }
+    requires right { IsSum (F.over frame.now) (right.now ∷ []) }
+    ensures sum { IfSome result (λ t. IsSum (F.over frame.now) (t ∷ [])) }
+    ensures product { let n = variables (F.over frame.now) in IfSome result
+        (λ t. StandsFor (F.over frame.now) (t ∷ []) (product (sum_of n (left.now ∷ [])) (sum_of n (right.now ∷ [])))) }
+{
+    let modulus = &frame.ring().modulus;
+    modulus.domain();
+    match Mono::mul(alloc, &left.0.monomial, &right.0.monomial) {
+        Ok(monomial) => {
+            let position = 0;
+            Some((Key { position, monomial }, modulus.mul(left.1, right.1)))
+        }
+        Err(_) => None,
+    }
+}
+
+// Puts the product of two sums of one term each in the place of the first. Was that done?
+fn single_product<F: Frame>(
+    alloc: Global,
+    frame: &F,
+    left: &mut Vec<(Key, u32)>,
+    right: &[(Key, u32)],
+) -> bool
+    requires left { IsSum (F.over frame.now) left.old.items }
+    requires right { IsSum (F.over frame.now) right.now }
+    ensures kept { result ≡ false → left.new.items ≡ left.old.items }
+    ensures sum { IsTrue result → IsSum (F.over frame.now) left.new.items }
+    ensures product { let n = variables (F.over frame.now) in IsTrue result
+        → StandsFor (F.over frame.now) left.new.items (product (sum_of n left.old.items) (sum_of n right.now)) }
+{
+    if left.len() != 1 || right.len() != 1 {
+        return false;
+    }
+    match term_product(alloc, frame, &left[0], &right[0]) {
+        Some(term) => {
+            left[0] = term;
+            true
+        }
+        None => false,
+    }
+}
+
 /// The terms of a product.
 pub fn product_part<F: Frame>(
     alloc: Global,
@@ -114,6 +164,10 @@ pub fn product_part<F: Frame>(
         → IfOk result (λ terms. IsOperandPart (F.over frame.now) (product v w) terms.items) }
 {
     frame.ring().modulus.domain();
+    let mut left = left;
+    if single_product(alloc, frame, &mut left, &right) {
+        return Ok(left);
+    }
     let left = normal(alloc, frame, left)?;
     let right = normal(alloc, frame, right)?;
     match mul(alloc, frame, &left, &right) {
