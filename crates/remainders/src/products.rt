@@ -13,11 +13,10 @@ ghost use Rattle.remainders.specs.Leaving.{AreFactors, IsLonger, IsRowOfList};
 use crate::hashes::keep_hashes;
 use module_vectors::{Ring, Vect};
 use monomial_orders::Mono;
-use numbered_sums::numbered_product;
-use row_matrix::{KeyTable, ProductStop, TermHashes};
+use row_matrix::{KeyTable, ProductStop, TermHashes, product_row_in};
 use std::alloc::Global;
 
-// The product of a monomial and the vector with this index. Its keys have numbers from then on.
+// The product of a monomial and the vector with this index, in the room of another one. Its keys have numbers from then on.
 fn hashed_product(
     alloc: Global,
     ring: &Ring,
@@ -26,6 +25,7 @@ fn hashed_product(
     monomial: &Mono,
     hashes: &mut Vec<TermHashes>,
     numbers: &mut KeyTable,
+    room: Vec<(u32, u32)>,
 ) -> Result<Vec<(u32, u32)>, ProductStop>
     requires index { index < length list.now }
     requires monomial { IsMonomialOver ring.now monomial.now }
@@ -39,7 +39,15 @@ fn hashed_product(
     ensures grown { IfOk result (λ row. IsGrown numbers.old numbers.new row.items) }
 {
     keep_hashes(alloc, list, hashes, index)?;
-    numbered_product(alloc, ring, list, index, monomial, &hashes[index], numbers)
+    let _ring = ring;
+    product_row_in(
+        alloc,
+        numbers,
+        monomial,
+        list[index].terms(),
+        &hashes[index],
+        room,
+    )
 }
 
 // The factors for the key with this number, if they are known.
@@ -61,7 +69,8 @@ fn factors_at<'a>(
     Some(&factors[place])
 }
 
-/// The product that has the key with this number as its lead, by numbers of its keys; none where it is not known to have one.
+/// The product that has the key with this number as its lead, by numbers of its keys, in the room of another one; none where it is not
+/// known to have one.
 pub(crate) fn product_for(
     alloc: Global,
     ring: &Ring,
@@ -71,6 +80,7 @@ pub(crate) fn product_for(
     factors: &[(u64, Mono)],
     hashes: &mut Vec<TermHashes>,
     numbers: &mut KeyTable,
+    room: Vec<(u32, u32)>,
 ) -> Result<Option<Vec<(u32, u32)>>, ProductStop>
     requires factors { Each (AreFactors ring.now list.now) factors.now }
     requires weighed { AreWeighed (variables ring.now) ring.now.weights list.now }
@@ -93,6 +103,7 @@ pub(crate) fn product_for(
                 &found.1,
                 hashes,
                 numbers,
+                room,
             )?;
             Ok(Some(row))
         }

@@ -9,7 +9,7 @@ ghost use Rattle.remainders.specs.Remainders.{IsRemainderOf};
 ghost use Rattle.remainders.specs.UnderWay.{IsUnderWay};
 
 use crate::substituting::{left_terms, take_all};
-use crate::work::{Work, begin};
+use crate::work::{FIRST_KEYS, Work, begin};
 use induced_leads::index_leads;
 use module_vectors::{NoMemory, Ring, Vect, VectList, WorkStop, lawful_setting};
 use monomial_orders::Mono;
@@ -77,7 +77,7 @@ fn numbered_rest(
     ensures rest { IfOk result (λ rest. IfSome rest (IsVectorOver ring.now (ring_comparison ring.now))) }
     ensures remainder { IfOk result (λ rest. IfSome rest (IsRemainderOf ring.now list.now v.now)) }
 {
-    let mut numbers = KeyTable::new(alloc)?;
+    let mut numbers = KeyTable::with_room(alloc, FIRST_KEYS)?;
     let start = numbered_terms(alloc, ring, v, &mut numbers)?;
     let index = index_leads(alloc, list)?;
     let mut work = begin(alloc, ring, list, &numbers, v, &start)?;

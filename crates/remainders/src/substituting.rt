@@ -20,6 +20,7 @@ use module_vectors::{Key, NoMemory, Ring, Vect};
 use numbered_sums::{add_multiple, residue_at};
 use row_matrix::{KeyTable, ProductStop, TermHashes};
 use std::alloc::Global;
+use std::mem::replace;
 use zp_field::Modulus;
 
 // More keys than these are not numbered.
@@ -134,7 +135,7 @@ fn is_known(number: u32, work: &Work) -> bool {
     at < work.places.len() && work.places[at] != NOWHERE
 }
 
-// Lets a touched number wait, unless no lead divides its key. What divides it is looked for when it is touched first.
+// Is a touched number to wait: does a lead divide its key? What divides it is looked for when it is touched first.
 fn look_at(
     alloc: Global,
     ring: &Ring,
@@ -144,7 +145,7 @@ fn look_at(
     v: &Vect,
     number: u32,
     work: &mut Work,
-) -> Result<(), NoMemory>
+) -> Result<bool, NoMemory>
     requires weighed { AreWeighed (variables ring.now) ring.now.weights list.now }
     requires index { IsIndexOf list.now index.now }
     requires keys { AreKeys (variables ring.now) ring.now.weights numbers.now }
@@ -154,22 +155,20 @@ fn look_at(
 {
     let _v = v;
     if number as usize >= numbers.len() || is_free(number, work) {
-        return Ok(());
+        return Ok(false);
     }
     if is_known(number, work) {
-        wait(ring, numbers, number, &mut work.queue)?;
-        return Ok(());
+        return Ok(true);
     }
     let key = &numbers.keys()[number as usize];
     match last_divisor(alloc, ring, list, index, key)? {
         None => {
             keep_flag(ring, list, numbers, number, &mut work.free);
-            Ok(())
+            Ok(false)
         }
         Some(found) => {
             keep_factors(number, found, &mut work.places, &mut work.factors)?;
-            wait(ring, numbers, number, &mut work.queue)?;
-            Ok(())
+            Ok(true)
         }
     }
 }
@@ -193,7 +192,8 @@ fn look_at_touched(
 {
     for k in from..work.touched.len() {
         let number = work.touched[k];
-        look_at(alloc, ring, list, index, numbers, v, number, work)?;
+        let waits = look_at(alloc, ring, list, index, numbers, v, number, work)?;
+        wait(ring, numbers, number, waits, &work.hints, &mut work.queue)?;
     }
     Ok(())
 }
@@ -224,6 +224,7 @@ fn take_residue(
     if residue == 0 {
         return Ok(());
     }
+    let room = replace(&mut work.room, Vec::new(alloc));
     let made = product_for(
         alloc,
         ring,
@@ -233,6 +234,7 @@ fn take_residue(
         &work.factors,
         hashes,
         numbers,
+        room,
     )?;
     widen(ring, list, numbers, v, work)?;
     match made {
@@ -249,6 +251,7 @@ fn take_residue(
                 &mut work.sums,
                 &mut work.touched,
             )?;
+            work.room = product;
             look_at_touched(alloc, ring, list, index, numbers, v, from, work)?;
             Ok(())
         }

@@ -4,7 +4,8 @@ ghost use Rattle.term_lists.specs.declared.key.Key.{Key};
 ghost use Rattle.remainders.specs.Leaving.{AreEntriesOf, IsLonger};
 ghost use Rattle.remainders.specs.UnderWay.{IsUnderWay};
 
-use module_vectors::{Frame, NoMemory, Ring, Vect};
+use crate::hints::KeyHints;
+use module_vectors::{NoMemory, Ring, Vect};
 use monomial_orders::Mono;
 use numbered_sums::add_multiple;
 use row_matrix::{KeyTable, kept_number};
@@ -12,11 +13,11 @@ use std::alloc::Global;
 use std::cmp::Reverse;
 use std::collections::BinaryHeap;
 
-// Room for so many keys is there from the start, so that nothing grows where there are few.
-const FIRST_KEYS: usize = 512;
+/// Room for so many keys is there from the start, so that nothing grows where there are few.
+pub(crate) const FIRST_KEYS: usize = 640;
 
 // The same for keys that a lead divides.
-const FIRST_FACTORS: usize = 256;
+const FIRST_FACTORS: usize = 400;
 
 /// The place of factors that are not known.
 pub(crate) const NOWHERE: u32 = u32::MAX;
@@ -35,7 +36,9 @@ pub(crate) struct Work {
     pub(crate) free: Vec<bool>,
     pub(crate) places: Vec<u32>,
     pub(crate) factors: Vec<(u64, Mono)>,
+    pub(crate) hints: KeyHints,
     pub(crate) queue: BinaryHeap<Waiting>,
+    pub(crate) room: Vec<(u32, u32)>,
 }
 
 // By hand, so that each drop of one is a call.
@@ -47,7 +50,9 @@ impl Drop for Work {
             free: _,
             places: _,
             factors: _,
+            hints: _,
             queue: _,
+            room: _,
         } = self;
     }
 }
@@ -83,8 +88,18 @@ pub(crate) fn begin(
         free,
         places,
         factors: Vec::with_capacity(alloc, FIRST_FACTORS)?,
+        hints: KeyHints::of(alloc, ring)?,
         queue: BinaryHeap::with_capacity(alloc, FIRST_FACTORS)?,
+        room: Vec::new(alloc),
     })
+}
+
+// Makes room for the places of so many numbers, and more, so that it is not asked for often.
+fn widen_places(count: usize, places: &mut Vec<u32>) -> Result<(), NoMemory> {
+    if places.len() < count {
+        places.resize(count.saturating_mul(2), NOWHERE)?;
+    }
+    Ok(())
 }
 
 /// Makes the sums as many as the keys, and so what is known of keys. Of those that have come nothing is known.
@@ -104,21 +119,23 @@ pub(crate) fn widen(
     let count = numbers.len();
     work.sums.resize(count, 0)?;
     work.free.resize(count, false)?;
-    work.places.resize(count, NOWHERE)?;
+    widen_places(count, &mut work.places)?;
     Ok(())
 }
 
-/// Lets the number wait.
+/// Lets the number wait, if it is to.
 pub(crate) fn wait(
     ring: &Ring,
     numbers: &KeyTable,
     number: u32,
+    waits: bool,
+    hints: &KeyHints,
     queue: &mut BinaryHeap<Waiting>,
 ) -> Result<(), NoMemory> {
     let keys = numbers.keys();
     let at = number as usize;
-    if at < keys.len() {
-        queue.push((ring.hint(&keys[at]), Reverse(number)))?;
+    if waits && at < keys.len() {
+        queue.push((hints.hint(ring, &keys[at]), Reverse(number)))?;
     }
     Ok(())
 }

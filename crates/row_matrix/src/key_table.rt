@@ -32,9 +32,10 @@ const SHORT_DIGIT: u64 = 7;
 
 const SHORT_DIGIT_BITS: u32 = 3;
 
+// There are no fewer buckets than these.
 const FIRST_BUCKETS: usize = 64;
 
-// Room for so many keys is there from the start: as many as have the first buckets.
+// Room for so many keys is there from the start where nobody knows better: as many as have the first buckets.
 const FIRST_KEYS: usize = 32;
 
 // The greatest degree of a product.
@@ -329,11 +330,18 @@ impl KeyTable {
     pub fn new(alloc: Global) -> Result<KeyTable, NoMemory>
         ensures { IfOk result (λ t. t ≡ []) }
     {
+        KeyTable::with_room(alloc, FIRST_KEYS)
+    }
+
+    /// No keys, and room for so many: nothing is moved before there are more.
+    pub fn with_room(alloc: Global, count: usize) -> Result<KeyTable, NoMemory>
+        ensures { IfOk result (λ t. t ≡ []) }
+    {
         Ok(KeyTable {
-            keys: Vec::with_capacity(alloc, FIRST_KEYS)?,
-            hashes: Vec::with_capacity(alloc, FIRST_KEYS)?,
-            earlier: Vec::with_capacity(alloc, FIRST_KEYS)?,
-            last: vec![in alloc; 0; FIRST_BUCKETS]?,
+            keys: Vec::with_capacity(alloc, count)?,
+            hashes: Vec::with_capacity(alloc, count)?,
+            earlier: Vec::with_capacity(alloc, count)?,
+            last: vec![in alloc; 0; count.saturating_mul(2).max(FIRST_BUCKETS)]?,
             told: true,
         })
     }

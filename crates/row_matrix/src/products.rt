@@ -60,10 +60,36 @@ pub fn product_row(
     ensures fits { OnOk result (Fits t.now v.now) }
     ensures stop { IfErr result (ProductStops t.now v.now) }
 {
+    let room = Vec::with_capacity(alloc, v.len())?;
+    product_row_in(alloc, keys, t, v, hashes, room)
+}
+
+/// The same in the room of a row that is not needed any more.
+pub fn product_row_in(
+    alloc: Global,
+    keys: &mut KeyTable,
+    t: &Mono,
+    v: &[(Key, u32)],
+    hashes: &TermHashes,
+    room: Vec<(u32, u32)>,
+) -> Result<Vec<(u32, u32)>, ProductStop>
+    requires weighed { let n = length t.now.exponents in (ws : List ℕ) × IsWeighed n ws t.now
+        × Each (λ u. IsWeighed n ws u.0.monomial) v.now × AreKeys n ws keys.old }
+    requires hashes { AreHashesOf hashes.now v.now }
+    ensures named { let n = length t.now.exponents in
+        IfOk result (λ entries. AreNamed n keys.new entries.items (scale 1 (exponents_of n t.now.exponents) (sum_of n v.now))) }
+    ensures grown { IfOk result (λ entries. IsGrown keys.old keys.new entries.items) }
+    ensures weighed { let n = length t.now.exponents in OnOk result ((ws : List ℕ) → IsWeighed n ws t.now
+        → Each (λ u. IsWeighed n ws u.0.monomial) v.now → AreKeys n ws keys.old → AreKeys n ws keys.new) }
+    ensures fits { OnOk result (Fits t.now v.now) }
+    ensures stop { IfErr result (ProductStops t.now v.now) }
+{
     let added = hash_of_factor(t);
     let told = keys.tells(t, hashes);
     let hashes = hashes.hashes();
-    let mut entries = Vec::with_capacity(alloc, v.len())?;
+    let mut entries = room;
+    entries.clear();
+    entries.reserve(v.len())?;
     loop {
         entries = keys.push_known(told, t, added, v, hashes, entries);
         let i = entries.len();

@@ -8,8 +8,8 @@ use Rattle.induced_leads.specs.Spans.{IsFoundLast}
 use Rattle.remainders.specs.Leaving.{AreFactors}
 use Rattle.remainders.proofs.substituting.look_at.Goals as goal
 
-pub returns-in_ok-wait-in-Some-clause-way : goal.returns-in_ok-wait-in-Some-clause-way
-returns-in_ok-wait-in-Some-clause-way c =
+pub returns-in_ok-keep_factors-in-Some-clause-way : goal.returns-in_ok-keep_factors-in-Some-clause-way
+returns-in_ok-keep_factors-in-Some-clause-way c =
     let ring = c.args.ring.now in
     let n = variables ring in
     let list = c.args.list.now in

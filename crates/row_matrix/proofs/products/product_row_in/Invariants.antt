@@ -2,7 +2,7 @@ use Rattle.std.proofs.Common.{length, true, ◌-◌, ◌≡◌, ◌≤◌}
 use Rattle.std.specs.Vec.{vec_capacity}
 use Rattle.row_matrix.specs.Naming.{IsPartOfProduct}
 use Rattle.row_matrix.specs.Told.{AreToldWith}
-use Rattle.row_matrix.proofs.products.product_row.Given as goal
+use Rattle.row_matrix.proofs.products.product_row_in.Given as goal
 
 abbrev pub invariant-loop-hashes : goal.invariant-loop-hashes
 invariant-loop-hashes l = record {

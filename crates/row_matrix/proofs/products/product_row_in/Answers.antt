@@ -13,7 +13,7 @@ use Rattle.row_matrix.proofs.Telling.{told_more, tells_products}
 use Rattle.row_matrix.specs.Hashes.{IsNumbered, key_product, no_key}
 use Rattle.row_matrix.specs.Naming.{AreNamed}
 use Rattle.row_matrix.specs.Told.{IsKeyUpTo}
-use Rattle.row_matrix.proofs.products.product_row.Goals as goal
+use Rattle.row_matrix.proofs.products.product_row_in.Goals as goal
 
 pub push_known-entries-requires-clause-told : goal.push_known-entries-requires-clause-told
 push_known-entries-requires-clause-told c = λ z.
