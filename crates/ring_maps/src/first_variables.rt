@@ -25,28 +25,34 @@ pub(crate) fn monomial_of(alloc: Global, ring: &Ring, exponents: &[u16]) -> Resu
     }
 }
 
-// The exponents with zeros behind them, so many in all.
-fn with_zeros(alloc: Global, exponents: &[u16], count: usize) -> Result<Vec<u16>, NoMemory>
+// Puts the exponents into the list, in place of what stands there, with zeros behind them, so many in all.
+fn with_zeros(exponents: &[u16], count: usize, more: &mut Vec<u16>) -> Result<(), NoMemory>
     requires { length exponents.now ≤ count }
-    ensures count { IfOk result (λ more. length more.items ≡ count) }
-    ensures same { IfOk result (λ more. exponents_of count more.items ≡ exponents_of count exponents.now) }
+    ensures count { OnOk result (length more.new.items ≡ count) }
+    ensures same { OnOk result (exponents_of count more.new.items ≡ exponents_of count exponents.now) }
 {
-    let mut more = Vec::with_capacity(alloc, count)?;
+    more.clear();
     more.extend_from_slice(exponents)?;
     more.resize(count, 0u16)?;
-    Ok(more)
+    Ok(())
 }
 
-// The monomial in the first variables of the graph.
-fn first_monomial(alloc: Global, _ring: &Ring, graph: &Ring, m: &Mono) -> Result<Mono, NoMemory>
+// The monomial in the first variables of the graph. The room is for its exponents.
+fn first_monomial(
+    alloc: Global,
+    _ring: &Ring,
+    graph: &Ring,
+    m: &Mono,
+    room: &mut Vec<u16>,
+) -> Result<Mono, NoMemory>
     requires graph { IsGraphRing _ring.now graph.now }
     requires monomial { IsMonomialOver _ring.now m.now }
     ensures over { IfOk result (IsMonomialOver graph.now) }
     ensures fitted { let n = variables _ring.now in let k = variables graph.now in
         IfOk result (λ u. exponents_of k u.exponents ≡ fitted k (exponents_of n m.now.exponents)) }
 {
-    let exponents = with_zeros(alloc, m.exponents(), graph.vars.len())?;
-    Ok(monomial_of(alloc, graph, &exponents)?)
+    with_zeros(m.exponents(), graph.vars.len(), room)?;
+    Ok(monomial_of(alloc, graph, room)?)
 }
 
 /// Puts c times these terms, in the first variables of the graph, behind the others.
@@ -66,8 +72,9 @@ pub(crate) fn push_first(
     ensures sum { let n = variables ring.now in let m = variables graph.now in OnOk result
         (StandsFor graph.now more.new.items (sum_of m more.old.items ++ scale c (unit m) (in_first m (sum_of n terms.now)))) }
 {
+    let mut room = Vec::with_capacity(alloc, graph.vars.len())?;
     for term in terms {
-        let monomial = first_monomial(alloc, ring, graph, &term.0.monomial)?;
+        let monomial = first_monomial(alloc, ring, graph, &term.0.monomial, &mut room)?;
         let position = term.0.position;
         let residue = ring.modulus.mul(c, term.1);
         more.push((Key { position, monomial }, residue))?;

@@ -10,12 +10,12 @@ with_zeros-requires c =
     omega (arith, ap length c.exponents.ensures.value, c.len.ensures, c.requires.monomial.variables, two)
 
 pub monomial_of-requires : goal.monomial_of-requires
-monomial_of-requires c = omega (arith, ap length c.deref.ensures.value, c.in_ok-exponents.ensures.count, c.len.ensures)
+monomial_of-requires c = omega (arith, ap length c.deref.ensures.value, c.in_ok-with_zeros.ensures.count, c.len.ensures)
 
 pub returns-clause-fitted : goal.returns-clause-fitted
 returns-clause-fitted c =
     let n = variables c.args._ring.now in
     let k = variables c.args.graph.now in
-    let same = subst (λ j. exponents_of j c.in_ok-exponents.exponents.items ≡ exponents_of j c.exponents.result.now) c.len.ensures c.in_ok-exponents.ensures.same in
+    let same = subst (λ j. exponents_of j c.with_zeros.new.more.items ≡ exponents_of j c.exponents.result.now) c.len.ensures c.in_ok-with_zeros.ensures.same in
     ap (exponents_of k) (c.in_ok-monomial_of.ensures.exponents ∙ c.deref.ensures.value) ∙ same ∙ ap (exponents_of k) c.exponents.ensures.value
     ∙ first_exponents n k c.args.m.now.exponents c.requires.monomial.variables
