@@ -7,15 +7,10 @@ use Rattle.term_lists.specs.Vectors.{AreTermsOver, sum_of}
 use Rattle.term_lists.specs.declared.key.Key.{Key as CodeKey}
 use Rattle.term_lists.specs.declared.ring.Ring.{Ring}
 use Rattle.row_matrix.specs.Rows.{AreKeys, column_key}
-use Rattle.row_matrix.specs.Told.{AreHashesOf, HashesShown}
+use Rattle.numbered_sums.specs.ColumnHashes.{AreColumnHashes}
 use Rattle.numbered_sums.specs.KeySums.{AreZeroSums, numbered_sum}
 use Rattle.remainders.specs.Leaving.{AreTakenAway}
 use Rattle.complements.specs.declared.accumulator.Accumulator.{Accumulator}
-
--- the hashes of each column's keys
-pub record HaveColumnHashes (columns : List (List (CodeKey × ℕ))) (hashes : List HashesShown) : Type 0 where
-  pub count : length hashes ≡ length columns
-  pub each : (i : ℕ) (h : HashesShown) → i < length columns → h ≡ get_or hashes i h → AreHashesOf h (get_or columns i [])
 
 -- all sums are 0; the hashes are those of the columns' keys once they are as many
 pub record IsCleared (ring : Ring) (columns : List (List (CodeKey × ℕ))) (a : Accumulator) : Type 0 where
@@ -23,12 +18,12 @@ pub record IsCleared (ring : Ring) (columns : List (List (CodeKey × ℕ))) (a :
   pub count : length a.sums.items ≡ length a.numbers
   pub zero : AreZeroSums a.sums.items
   pub untouched : a.touched.items ≡ []
-  pub hashes : length a.hashes.items ≡ length columns → HaveColumnHashes columns a.hashes.items
+  pub hashes : length a.hashes.items ≡ length columns → AreColumnHashes columns a.hashes.items
 
 -- the sums are a combination of the columns with the other sign: that was taken away of 0
 pub record AreGathered (ring : Ring) (columns : List (List (CodeKey × ℕ))) (a : Accumulator) : Type 0 where
   pub keys : AreKeys (variables ring) ring.weights a.numbers
-  pub hashes : HaveColumnHashes columns a.hashes.items
+  pub hashes : AreColumnHashes columns a.hashes.items
   pub taken : AreTakenAway ring columns a.numbers [] a.sums.items a.touched.items
 
 -- old and the term with this number and residue are new

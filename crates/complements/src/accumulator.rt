@@ -1,6 +1,6 @@
 // Keys by their numbers, and a sum of residues for each.
 ghost use Rattle.std.specs.Prelude.{IfOk};
-ghost use Rattle.complements.specs.Combining.{HaveColumnHashes, IsCleared};
+ghost use Rattle.complements.specs.Combining.{IsCleared};
 
 use module_vectors::{NoMemory, Ring, Vect};
 use row_matrix::{KeyTable, TermHashes};
@@ -39,15 +39,4 @@ pub(crate) fn no_sums(alloc: Global, ring: &Ring, columns: &[Vect]) -> Result<Ac
         touched: Vec::new(alloc),
         hashes: Vec::new(alloc),
     })
-}
-
-/// The hashes of each column's keys.
-pub(crate) fn column_hashes(alloc: Global, columns: &[Vect]) -> Result<Vec<TermHashes>, NoMemory>
-    ensures { IfOk result (λ hashes. HaveColumnHashes columns.now hashes.items) }
-{
-    let mut hashes = Vec::with_capacity(alloc, columns.len())?;
-    for column in columns {
-        hashes.push_reserved(TermHashes::of(alloc, column.terms())?);
-    }
-    Ok(hashes)
 }

@@ -12,9 +12,9 @@ ghost use Rattle.numbered_sums.specs.ProductEntries.{AreReduced};
 ghost use Rattle.complements.specs.Combining.{AreGathered, AreTermsOfSums, IsCleared, IsSumTaken, IsTermTaken};
 ghost use Rattle.complements.specs.Complements.{IsComplement};
 
-use crate::accumulator::{Accumulator, column_hashes, no_sums};
+use crate::accumulator::{Accumulator, no_sums};
 use module_vectors::{Frame, Key, NoMemory, Ring, Vect, VectList, VectStop, lawful_setting};
-use numbered_sums::{add_multiple, numbered_product, residue_at};
+use numbered_sums::{add_multiple, column_hashes, numbered_product, residue_at};
 use row_matrix::{KeyTable, ProductStop};
 use std::alloc::Global;
 

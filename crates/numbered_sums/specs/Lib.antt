@@ -1,2 +1,3 @@
 pub mod KeySums
 pub mod ProductEntries
+pub mod ColumnHashes

@@ -5,11 +5,13 @@
 //! with the greatest lead down, and takes each product away so often as its lead is there.
 #![tactic(auto)]
 
+mod hashes;
 mod order;
 mod products;
 mod sums;
 mod work;
 
+pub use hashes::column_hashes;
 pub use order::{Order, order_of, product_at};
 pub use products::{Product, numbered_product};
 pub use sums::{add_multiple, clear_sums, residue_at};

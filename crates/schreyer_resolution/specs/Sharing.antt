@@ -12,7 +12,6 @@ use Rattle.vector_division.specs.Divisions.{IsFreeOfLeads}
 use Rattle.vector_division.specs.Reductions.{cofactors_of}
 use Rattle.vector_division.specs.declared.reduction.ScaledProduct.{ScaledProduct}
 use Rattle.row_matrix.specs.Rows.{Entry, column_key}
-use Rattle.row_matrix.specs.Told.{AreHashesOf, HashesShown}
 use Rattle.resolution_maps.specs.Inducing.{Tower, tower_comparison}
 use Rattle.numbered_sums.specs.KeySums.{AreSmall, AreTouched, numbered_sum}
 use Rattle.numbered_sums.specs.ProductEntries.{multiple_at}
@@ -75,11 +74,6 @@ pub record AreStarts (ring : Ring) (columns : List (List (CodeKey × ℕ))) (num
   pub each :
       (c : ℕ) (k : CodeKey) → c < count → k ≡ get_or keys c k
       → IsProductUpToFree ring columns numbers k.position k.monomial (get_or rows c [])
-
--- the hashes of each column's keys
-pub record AreColumnHashes (columns : List (List (CodeKey × ℕ))) (hashes : List HashesShown) : Type 0 where
-  pub count : length hashes ≡ length columns
-  pub each : (i : ℕ) (h : HashesShown) → i < length columns → h ≡ get_or hashes i h → AreHashesOf h (get_or columns i [])
 
 -- the vector has 1 at the key and behind it such quotients of the key's product with the other sign, in the order above
 pub record IsColumnMade (ring : Ring) (columns : List (List (CodeKey × ℕ))) (t : Tower) (k : CodeKey) (v : List (CodeKey × ℕ)) : Type 0 where

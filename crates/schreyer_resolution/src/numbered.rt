@@ -8,9 +8,10 @@ ghost use Rattle.row_matrix.specs.Naming.{IsGrown};
 ghost use Rattle.row_matrix.specs.Rows.{AreKeys};
 ghost use Rattle.induced_leads.specs.Pairs.{AreNonzero};
 ghost use Rattle.induced_leads.specs.Spans.{IsIndexOf};
+ghost use Rattle.numbered_sums.specs.ColumnHashes.{AreColumnHashes};
 ghost use Rattle.numbered_sums.specs.ProductEntries.{AreReduced, IsProductEntries};
 ghost use Rattle.schreyer_resolution.specs.FreeKeys.{AreFreeNumbers, HasMoreKeys};
-ghost use Rattle.schreyer_resolution.specs.Sharing.{AreColumnHashes, AreStarts, IsLastProduct, entry_lists};
+ghost use Rattle.schreyer_resolution.specs.Sharing.{AreStarts, IsLastProduct, entry_lists};
 
 use induced_leads::{LeadIndex, last_divisor};
 use module_vectors::{Key, NoMemory, Ring, Vect};
@@ -21,17 +22,6 @@ use std::alloc::Global;
 
 // More keys than these are not numbered.
 const MOST_KEYS: usize = 1 << 22;
-
-/// The hashes of each column's keys.
-pub(crate) fn column_hashes(alloc: Global, columns: &[Vect]) -> Result<Vec<TermHashes>, NoMemory>
-    ensures { IfOk result (λ hashes. AreColumnHashes columns.now hashes.items) }
-{
-    let mut hashes = Vec::with_capacity(alloc, columns.len())?;
-    for column in columns {
-        hashes.push_reserved(TermHashes::of(alloc, column.terms())?);
-    }
-    Ok(hashes)
-}
 
 /// The product of a monomial and the column with this index. Its keys have numbers from then on.
 pub(crate) fn column_product(

@@ -18,11 +18,11 @@ ghost use Rattle.schreyer_resolution.specs.Sharing.{AreColumnsMade, AreStarts, I
 
 use crate::column::column_terms;
 use crate::free_entries::{cut_products, cut_starts};
-use crate::numbered::{all_products, column_hashes, start_rows};
+use crate::numbered::{all_products, start_rows};
 use crate::substituting::quotients_of;
 use induced_leads::{Induced, LeadIndex};
 use module_vectors::{Frame, Key, NoMemory, Ring, Vect, VectList, lawful_setting};
-use numbered_sums::{Order, Product, Work, no_work, order_of};
+use numbered_sums::{Order, Product, Work, column_hashes, no_work, order_of};
 use row_matrix::{KeyTable, ProductStop};
 use std::alloc::Global;
 use std::cmp::Ordering;

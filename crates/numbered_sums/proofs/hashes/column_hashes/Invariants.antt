@@ -1,7 +1,7 @@
 use Rattle.std.proofs.Common.{[], get_or, length, ℕ, ◌<◌, ◌≡◌, ◌≤◌}
 use Rattle.std.specs.Vec.{vec_capacity, vec_len}
 use Rattle.row_matrix.specs.Told.{AreHashesOf, HashesShown}
-use Rattle.schreyer_resolution.proofs.numbered.column_hashes.Given as goal
+use Rattle.numbered_sums.proofs.hashes.column_hashes.Given as goal
 
 abbrev pub invariant-loop-column : goal.invariant-loop-column
 invariant-loop-column l = record {
