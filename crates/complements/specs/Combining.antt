@@ -13,7 +13,7 @@ use Rattle.remainders.specs.Leaving.{AreTakenAway}
 use Rattle.complements.specs.declared.accumulator.Accumulator.{Accumulator}
 
 -- all sums are 0; the hashes are those of the columns' keys once they are as many
-pub record IsCleared (ring : Ring) (columns : List (List (CodeKey × ℕ))) (a : Accumulator) : Type 0 where
+pub record HasZeroSums (ring : Ring) (columns : List (List (CodeKey × ℕ))) (a : Accumulator) : Type 0 where
   pub keys : AreKeys (variables ring) ring.weights a.numbers
   pub count : length a.sums.items ≡ length a.numbers
   pub zero : AreZeroSums a.sums.items

@@ -1,6 +1,6 @@
 // Keys by their numbers, and a sum of residues for each.
 ghost use Rattle.std.specs.Prelude.{IfOk};
-ghost use Rattle.complements.specs.Combining.{IsCleared};
+ghost use Rattle.complements.specs.Combining.{HasZeroSums};
 
 use module_vectors::{NoMemory, Ring, Vect};
 use row_matrix::{KeyTable, TermHashes};
@@ -29,7 +29,7 @@ impl Drop for Accumulator {
 
 /// No key has a number yet.
 pub(crate) fn no_sums(alloc: Global, ring: &Ring, columns: &[Vect]) -> Result<Accumulator, NoMemory>
-    ensures { IfOk result (IsCleared ring.now columns.now) }
+    ensures { IfOk result (HasZeroSums ring.now columns.now) }
 {
     let _ring = ring;
     let _columns = columns;

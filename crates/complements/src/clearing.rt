@@ -3,7 +3,7 @@ ghost use Rattle.std.specs.Prelude.{◌++◌, IfOk, OnOk, length};
 ghost use Rattle.formal_sums.specs.Combinations.{combination};
 ghost use Rattle.term_lists.specs.Rings.{ring_comparison, variables};
 ghost use Rattle.term_lists.specs.Vectors.{AreVectorsOver, IsVectorOver, sum_of, sums_of};
-ghost use Rattle.complements.specs.Combining.{IsCleared};
+ghost use Rattle.complements.specs.Combining.{HasZeroSums};
 ghost use Rattle.complements.specs.Complements.{AreComplements, IsComplement};
 
 use crate::accumulator::{Accumulator, no_sums};
@@ -26,10 +26,10 @@ fn with_combination(
     requires columns { AreVectorsOver ring.now (ring_comparison ring.now) columns.now }
     requires factors { IsVectorOver ring.now (ring_comparison ring.now) factors.now }
     requires vector { IsVectorOver ring.now (ring_comparison ring.now) v }
-    requires cleared { IsCleared ring.now columns.now accumulator.old }
+    requires cleared { HasZeroSums ring.now columns.now accumulator.old }
     ensures vector { IfOk result (IsVectorOver ring.now (ring_comparison ring.now)) }
     ensures sum { IfOk result (IsComplement ring.now columns.now v) }
-    ensures cleared { OnOk result (IsCleared ring.now columns.now accumulator.new) }
+    ensures cleared { OnOk result (HasZeroSums ring.now columns.now accumulator.new) }
 {
     lawful_setting(ring);
     if factors.terms().is_empty() || !factors.has_positions(columns.len() as u128) {
@@ -53,10 +53,10 @@ fn complement(
 ) -> Result<Vect, VectStop>
     requires columns { AreVectorsOver ring.now (ring_comparison ring.now) columns.now }
     requires vector { IsVectorOver ring.now (ring_comparison ring.now) v }
-    requires cleared { IsCleared ring.now columns.now accumulator.old }
+    requires cleared { HasZeroSums ring.now columns.now accumulator.old }
     ensures vector { IfOk result (IsVectorOver ring.now (ring_comparison ring.now)) }
     ensures sum { IfOk result (IsComplement ring.now columns.now v) }
-    ensures cleared { OnOk result (IsCleared ring.now columns.now accumulator.new) }
+    ensures cleared { OnOk result (HasZeroSums ring.now columns.now accumulator.new) }
 {
     lawful_setting(ring);
     let mut out = v;

@@ -9,7 +9,7 @@ ghost use Rattle.vector_division.specs.Progress.{AreWeighed};
 ghost use Rattle.row_matrix.specs.Rows.{AreKeys};
 ghost use Rattle.numbered_sums.specs.KeySums.{AreTouched, AreZeroSums};
 ghost use Rattle.numbered_sums.specs.ProductEntries.{AreReduced};
-ghost use Rattle.complements.specs.Combining.{AreGathered, AreTermsOfSums, IsCleared, IsSumTaken, IsTermTaken};
+ghost use Rattle.complements.specs.Combining.{AreGathered, AreTermsOfSums, HasZeroSums, IsSumTaken, IsTermTaken};
 ghost use Rattle.complements.specs.Complements.{IsComplement};
 
 use crate::accumulator::{Accumulator, no_sums};
@@ -193,8 +193,8 @@ fn renew(
     columns: &[Vect],
     accumulator: &mut Accumulator,
 ) -> Result<(), NoMemory>
-    requires { IsCleared ring.now columns.now accumulator.old }
-    ensures { OnOk result (IsCleared ring.now columns.now accumulator.new) }
+    requires { HasZeroSums ring.now columns.now accumulator.old }
+    ensures { OnOk result (HasZeroSums ring.now columns.now accumulator.new) }
 {
     if accumulator.numbers.len() <= MOST_KEYS {
         return Ok(());
@@ -210,7 +210,7 @@ fn begin(
     columns: &[Vect],
     accumulator: &mut Accumulator,
 ) -> Result<(), NoMemory>
-    requires { IsCleared ring.now columns.now accumulator.old }
+    requires { HasZeroSums ring.now columns.now accumulator.old }
     ensures { OnOk result (AreGathered ring.now columns.now accumulator.new) }
 {
     let _ring = ring;
@@ -231,7 +231,7 @@ fn gathered_vector(
     requires { AreGathered ring.now columns.now accumulator.old }
     ensures vector { IfOk result (λ made. IfSome made (IsVectorOver ring.now (ring_comparison ring.now))) }
     ensures sum { IfOk result (λ made. IfSome made (IsComplement ring.now columns.now [])) }
-    ensures cleared { IfOk result (λ made. IfSome made (λ _. IsCleared ring.now columns.now accumulator.new)) }
+    ensures cleared { IfOk result (λ made. IfSome made (λ _. HasZeroSums ring.now columns.now accumulator.new)) }
 {
     let _columns = columns;
     lawful_setting(ring);
@@ -260,10 +260,10 @@ fn numbered_combination(
     requires positions { HasPositions (length columns.now) factors.now }
     requires factors { Each (IsTerm (variables ring.now) ring.now.weights ring.now.modulus.value) factors.now }
     requires columns { AreVectorsOver ring.now (ring_comparison ring.now) columns.now }
-    requires cleared { IsCleared ring.now columns.now accumulator.old }
+    requires cleared { HasZeroSums ring.now columns.now accumulator.old }
     ensures vector { IfOk result (λ made. IfSome made (IsVectorOver ring.now (ring_comparison ring.now))) }
     ensures sum { IfOk result (λ made. IfSome made (IsComplement ring.now columns.now [])) }
-    ensures cleared { IfOk result (λ made. IfSome made (λ _. IsCleared ring.now columns.now accumulator.new)) }
+    ensures cleared { IfOk result (λ made. IfSome made (λ _. HasZeroSums ring.now columns.now accumulator.new)) }
 {
     renew(alloc, ring, columns, accumulator)?;
     begin(alloc, ring, columns, accumulator)?;
@@ -282,10 +282,10 @@ fn by_numbers(
     requires positions { HasPositions (length columns.now) factors.now }
     requires factors { Each (IsTerm (variables ring.now) ring.now.weights ring.now.modulus.value) factors.now }
     requires columns { AreVectorsOver ring.now (ring_comparison ring.now) columns.now }
-    requires cleared { IsCleared ring.now columns.now accumulator.old }
+    requires cleared { HasZeroSums ring.now columns.now accumulator.old }
     ensures vector { IfSome result (IsVectorOver ring.now (ring_comparison ring.now)) }
     ensures sum { IfSome result (IsComplement ring.now columns.now []) }
-    ensures cleared { IfSome result (λ _. IsCleared ring.now columns.now accumulator.new) }
+    ensures cleared { IfSome result (λ _. HasZeroSums ring.now columns.now accumulator.new) }
 {
     match numbered_combination(alloc, ring, columns, factors, accumulator) {
         Ok(made) => made,
@@ -335,10 +335,10 @@ pub(crate) fn combination_of(
     requires columns { AreVectorsOver ring.now (ring_comparison ring.now) columns.now }
     requires factors { IsVectorOver ring.now (ring_comparison ring.now) factors.now }
     requires positions { HasPositions (length columns.now) factors.now }
-    requires cleared { IsCleared ring.now columns.now accumulator.old }
+    requires cleared { HasZeroSums ring.now columns.now accumulator.old }
     ensures vector { IfOk result (IsVectorOver ring.now (ring_comparison ring.now)) }
     ensures sum { IfOk result (IsComplement ring.now columns.now []) }
-    ensures cleared { OnOk result (IsCleared ring.now columns.now accumulator.new) }
+    ensures cleared { OnOk result (HasZeroSums ring.now columns.now accumulator.new) }
 {
     let list = columns.as_slice();
     if has_few_terms(list, factors.terms()) {

@@ -1,5 +1,5 @@
 use Rattle.std.proofs.Common.{}
-use Rattle.complements.specs.Combining.{IsCleared}
+use Rattle.complements.specs.Combining.{HasZeroSums}
 use Rattle.complements.specs.Complements.{IsComplement}
 use Rattle.term_lists.specs.Rings.{ring_comparison}
 use Rattle.term_lists.specs.Vectors.{IsVectorOver}
@@ -9,5 +9,5 @@ abbrev pub invariant-loop-level : goal.invariant-loop-level
 invariant-loop-level l = record {
   sum : IsComplement l.ring l.columns l.fn.v l.out;
   vector : IsVectorOver l.ring (ring_comparison l.ring) l.out;
-  cleared : IsCleared l.ring l.columns l.accumulator;
+  cleared : HasZeroSums l.ring l.columns l.accumulator;
 }

@@ -1,14 +1,14 @@
 use Rattle.std.proofs.Common.{[], arith, length, subst, ◌<◌, ◌∙◌, ◌≡◌}
 use Rattle.std.proofs.lemmas.List.{get_or_default}
 use Rattle.complements.proofs.Plus.{plus_next, plus_start}
-use Rattle.complements.specs.Combining.{IsCleared}
+use Rattle.complements.specs.Combining.{HasZeroSums}
 use Rattle.complements.specs.Complements.{AreComplements}
 use Rattle.complements.proofs.clearing.complements.Goals as goal
 
 pub loop-v-init : goal.loop-v-init
 loop-v-init c = record {
   all = plus_start c.args.ring.now c.args.columns.now c.args.vectors.now c.in_ok-all.all.items c.in_ok-all.ensures.items;
-  cleared = subst (λ z. IsCleared c.args.ring.now z c.in_ok-accumulator.accumulator) c.as_slice-2.ensures c.in_ok-accumulator.ensures;
+  cleared = subst (λ z. HasZeroSums c.args.ring.now z c.in_ok-accumulator.accumulator) c.as_slice-2.ensures c.in_ok-accumulator.ensures;
 }
 
 pub loop-v-preserved : goal.loop-v-preserved
