@@ -91,20 +91,25 @@ fn have_one_weight(weights: &[u8]) -> bool {
     true
 }
 
-/// Is the list one of polynomials in the graded order?
-pub(crate) fn are_graded_polynomials(ring: &Ring, rank: u128) -> bool {
+// Is the list one of polynomials in the graded order?
+fn are_graded_polynomials(ring: &Ring, rank: u128) -> bool {
     rank <= 1 && ring.order == Order::Grevlex
 }
 
-/// Does the list gain nothing by an attempt? It has homogeneous vectors, for some degrees of the positions, or polynomials in the
-/// graded order without weights.
-pub(crate) fn goes_directly(
+/// Is the list run by all workers at once? It is where pairs go by degrees in any case: polynomials in the graded order without weights.
+pub(crate) fn goes_directly(ring: &Ring, rank: u128) -> bool {
+    are_graded_polynomials(ring, rank) && have_one_weight(ring.weights.as_slice())
+}
+
+/// Does the list gain nothing by another form? It has homogeneous vectors, for some degrees of the positions, or polynomials in the
+/// graded order.
+pub(crate) fn stands_well(
     alloc: Global,
     ring: &Ring,
     rank: u128,
     list: &VectList,
 ) -> Result<bool, NoMemory> {
-    if are_graded_polynomials(ring, rank) && have_one_weight(ring.weights.as_slice()) {
+    if are_graded_polynomials(ring, rank) {
         return Ok(true);
     }
     is_graded(alloc, ring, rank, list)

@@ -9,7 +9,7 @@ ghost use Rattle.groebner_iface.specs.Runs.{IsReducedBasisOf};
 use crate::attempt::{Attempts, Unanswered};
 use crate::by_change::by_change;
 use crate::by_degrees::by_degrees;
-use crate::directness::{are_graded_polynomials, goes_directly};
+use crate::directness::{goes_directly, stands_well};
 use crate::one_terms::{by_terms, have_one_term};
 use groebner_iface::{Groebner, Stop};
 use module_vectors::{NoMemory, Ring, VectList};
@@ -21,11 +21,12 @@ use std::thread::Threads;
 // From this number of vectors on a list of one term each has many pairs.
 const LONG: usize = 64;
 
-/// An engine over another. A long list of vectors of one term each is a basis as it stands. One that is not homogeneous is first run
-/// homogenised, and before that, where the order is not by degree, the basis of an ideal is taken from the one in the graded order
-/// if it has few standard monomials; in the graded order under weights an ideal is attempted as it stands. Each attempt has an engine
-/// of its own. Where none has an answer, or the list goes directly, the engine `direct` runs the list itself. What stopped early is of
-/// that one alone. The runs that count are its own: the attempts for a list and the run of `direct` on it are parts of one.
+/// An engine over another. A long list of vectors of one term each is a basis as it stands. One that is homogeneous, or of polynomials
+/// in the graded order under weights, is first run as it stands, and any other one homogenised; before that, where the order is not by
+/// degree, the basis of an ideal is taken from the one in the graded order if it has few standard monomials. Each of these attempts has
+/// an engine of its own. Where none has an answer, and for polynomials in the graded order without weights, the engine `direct` runs the
+/// list itself. What stopped early is of that one alone. The runs that count are its own: the attempts for a list and the run of `direct`
+/// on it are parts of one.
 pub struct DegreeEngine<A, E> {
     pub attempts: A,
     pub direct: E,
@@ -89,8 +90,9 @@ fn as_it_stands<R: Threads + Wait + Sync, E: Groebner>(
     Ok(basis)
 }
 
-// The reduced basis of the list by one of these ways, if one comes to it and the list does not go directly. Under weights polynomials
-// in the graded order are run as they stand: homogenised they have bases several times as long.
+// The reduced basis of the list by one of these ways, if one comes to it. A list that gains nothing by another form is run as it stands,
+// by one worker, but where it goes directly. Under weights polynomials in the graded order are run as they stand: homogenised they have
+// bases several times as long.
 fn attempted<R: Threads + Wait + Sync, A: Attempts<E>, E: Groebner + Drop>(
     rt: &R,
     alloc: Global,
@@ -109,10 +111,10 @@ fn attempted<R: Threads + Wait + Sync, A: Attempts<E>, E: Groebner + Drop>(
             return by_terms(rt, alloc, ring, rank, list);
         }
     }
-    if goes_directly(alloc, ring, rank, list)? {
+    if goes_directly(ring, rank) {
         return Err(Unanswered::Other);
     }
-    if are_graded_polynomials(ring, rank) {
+    if stands_well(alloc, ring, rank, list)? {
         return as_it_stands(rt, alloc, &mut attempts.engine(), ring, rank, list);
     }
     if rank == 1 {
@@ -146,7 +148,7 @@ fn tried<R: Threads + Wait + Sync, A: Attempts<E>, E: Groebner + Drop>(
         Err(Unanswered::Memory) => return Err(Unanswered::Memory),
         Err(Unanswered::Other) => {}
     }
-    if !goes_directly(alloc, ring, rank, list)? {
+    if !goes_directly(ring, rank) {
         return Err(Unanswered::Other);
     }
     as_it_stands(rt, alloc, &mut attempts.engine(), ring, rank, list)
