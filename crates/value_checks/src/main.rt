@@ -5,6 +5,7 @@
 //!     list SETTING / LIST                 the vectors of the list
 //!     add SETTING / PRODUCT / LIST        the first vector, and the product times the second
 //!     combine SETTING / VECTOR / LIST     the combination of the list by the entries of the vector
+//!     table SETTING / LIST                the product of the two polynomials by a table, or that none serves
 //!     track SETTING / CHANGES / LIST      a generator after changes, with its cofactors
 //!     pair SETTING / I J / LIST           the pair of two leads, and the criteria
 //!     divide SETTING / VECTOR / LIST      quotients and rest
@@ -40,7 +41,7 @@ use crate::members::write_tracked;
 use crate::pairs::write_pair;
 use crate::runs::{write_basis, write_beginning, write_solution};
 use crate::statements::write_stated;
-use crate::vectors::{write_combination, write_list, write_power, write_sum};
+use crate::vectors::{write_combination, write_list, write_power, write_sum, write_table};
 use check_texts::{NoValue, Sheet, setting_of, vectors_of};
 use module_vectors::{Ring, VectList};
 use std::alloc::Global;
@@ -68,6 +69,7 @@ fn write_on_list<R: Threads + Wait + Sync>(
             Ok(())
         }
         "add" => write_sum(alloc, sheet, ring, rank, argument, list),
+        "table" => write_table(alloc, sheet, ring, rank, list),
         "combine" => write_combination(alloc, sheet, ring, rank, argument, list),
         "pair" => write_pair(alloc, sheet, ring, rank, argument, list),
         "interreduce" => {

@@ -7,6 +7,7 @@ ghost use Rattle.term_lists.specs.Vectors.{AreVectorsOver, HasPositions};
 use check_texts::{NoValue, Sheet, product_of, setting_of, vector_of};
 use module_vectors::{Ring, Vect, VectList, VectStop};
 use std::alloc::Global;
+use term_tables::multiply;
 
 /// The number that a word is.
 pub fn number_of(word: &str) -> Result<u64, NoValue> {
@@ -103,6 +104,27 @@ pub fn write_combination(
     match Vect::combine(alloc, ring, &cofactors, list) {
         Ok(sum) => write_vector(sheet, ring, rank, &sum),
         Err(stop) => write_stop(sheet, &stop),
+    }
+    Ok(())
+}
+
+/// Writes the product of the two polynomials of the list by a table, or that none serves.
+pub fn write_table(
+    alloc: Global,
+    sheet: &mut Sheet,
+    ring: &Ring,
+    rank: u128,
+    list: &VectList,
+) -> Result<(), NoValue>
+    requires { AreVectorsOver ring.now (ring_comparison ring.now) list.now }
+{
+    let factors = list.as_slice();
+    if rank != 1 || factors.len() != 2 {
+        return Err(NoValue);
+    }
+    match multiply(alloc, ring, factors[0].terms(), factors[1].terms())? {
+        Some(product) => write_vector(sheet, ring, rank, &product),
+        None => sheet.text("  none\n"),
     }
     Ok(())
 }
