@@ -1,5 +1,5 @@
 // The order in which products are taken away.
-ghost use Rattle.std.specs.Prelude.{List, ℕ, Contains, IfOk, IfSome, OnOk};
+ghost use Rattle.std.specs.Prelude.{◌≤◌, ◌⊎◌, List, ℕ, Contains, IfNone, IfOk, IfSome, OnOk, get_or, length};
 ghost use Rattle.term_lists.specs.Rings.{variables};
 ghost use Rattle.row_matrix.specs.Rows.{AreKeys};
 
@@ -37,7 +37,8 @@ pub(crate) fn place_at(places: &[u32], number: u32) -> usize {
 
 /// The product with this turn, if there is one.
 pub fn product_at<'a>(products: &'a [Product], turns: &[u32], place: usize) -> Option<&'a Product>
-    ensures { IfSome result (λ s. Contains products.now s.now) }
+    ensures inside { IfSome result (λ s. Contains products.now s.now) }
+    ensures none { IfNone result (length turns.now ≤ place ⊎ length products.now ≤ get_or turns.now place 0) }
 {
     if place >= turns.len() {
         return None;

@@ -1,9 +1,10 @@
 // Products of vectors over numbers of keys.
-ghost use Rattle.std.specs.Prelude.{◌<◌, [], IfOk, OnOk, get_or, length};
+ghost use Rattle.std.specs.Prelude.{◌<◌, [], IfErr, IfOk, OnOk, get_or, length};
 ghost use Rattle.term_lists.specs.Rings.{variables};
 ghost use Rattle.term_lists.specs.Vectors.{IsMonomialOver};
 ghost use Rattle.vector_division.specs.Progress.{AreWeighed};
 ghost use Rattle.row_matrix.specs.Naming.{IsGrown};
+ghost use Rattle.row_matrix.specs.Products.{ProductStops};
 ghost use Rattle.row_matrix.specs.Rows.{AreKeys};
 ghost use Rattle.row_matrix.specs.Told.{AreHashesOf};
 ghost use Rattle.numbered_sums.specs.ProductEntries.{AreReduced, IsProductEntries};
@@ -53,6 +54,7 @@ pub fn numbered_product(
     ensures row { IfOk result (λ row. IsProductEntries ring.now list.now numbers.new index monomial.now row.items) }
     ensures keys { OnOk result (AreKeys (variables ring.now) ring.now.weights numbers.new) }
     ensures grown { IfOk result (λ row. IsGrown numbers.old numbers.new row.items) }
+    ensures stop { IfErr result (ProductStops monomial.now (get_or list.now index [])) }
 {
     let _ring = ring;
     product_row(alloc, numbers, monomial, list[index].terms(), hashes)

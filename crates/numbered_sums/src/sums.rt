@@ -1,7 +1,7 @@
 // Multiples of products are added to the sums.
 ghost use Rattle.std.specs.Prelude.{◌≡◌, ◌<◌, ◌%◌, ◌*◌, ◌+◌, ◌^◌, [], ℕ, Contains, IsTrue, OnOk, get_or, length};
 ghost use Rattle.residues.specs.Residues.{IsCongruent};
-ghost use Rattle.formal_sums.specs.FormalSums.{IsSame, Key as SumKey};
+ghost use Rattle.formal_sums.specs.FormalSums.{Each, IsSame, Key as SumKey};
 ghost use Rattle.numbered_sums.specs.KeySums.{AddsProduct, AreEntriesWithin, AreSmall, AreTouched, AreZeroSums, numbered_sum};
 
 use module_vectors::NoMemory;
@@ -82,6 +82,7 @@ pub fn clear_sums(modulus: &Modulus, touched: &[u32], sums: &mut Vec<u64>) -> bo
     ensures same { (n : ℕ) (key : ℕ → SumKey n) → IsTrue result
         → IsSame modulus.now.value (numbered_sum key 0 sums.old.items) [] }
     ensures idle { IsTrue result → AreZeroSums sums.new.items }
+    ensures none { Each (λ t. t < length sums.old.items) touched.now → Each (λ a. a % modulus.now.value ≡ 0) sums.old.items → IsTrue result }
     ensures count { length sums.new.items ≡ length sums.old.items }
 {
     modulus.domain();

@@ -1,3 +1,4 @@
+use Rattle.std.specs.Prelude.{IfErr}
 use Rattle.std.proofs.Common.{List, [], get_or, length, subst, sym, ℕ, ◌∙◌, ◌≡◌}
 use Rattle.std.proofs.lemmas.List.{get_or_default}
 use Rattle.monomials.specs.Exponents.{exponents_of}
@@ -7,6 +8,7 @@ use Rattle.term_lists.proofs.Parts.{Each_member}
 use Rattle.term_lists.specs.Rings.{variables}
 use Rattle.term_lists.specs.Vectors.{sum_of}
 use Rattle.row_matrix.specs.Naming.{AreNamed}
+use Rattle.row_matrix.specs.Products.{ProductStops}
 use Rattle.row_matrix.specs.Rows.{AreKeys}
 use Rattle.row_matrix.proofs.MonicMatrices.{ok_more}
 use Rattle.numbered_sums.proofs.ProductRows.{product_named}
@@ -44,3 +46,10 @@ returns-clause-keys c =
     (λ _ h. subst (λ j. AreKeys j ws new) same
     (h ws (subst (λ j. IsWeighed j ws m) (sym same) c.requires.monomial) (subst (λ j. Each (λ u. IsWeighed j ws u.0.monomial) v) (sym same) terms)
     (subst (λ j. AreKeys j ws old) (sym same) c.requires.keys))) c.product_row.ensures.weighed
+
+pub returns-clause-stop : goal.returns-clause-stop
+returns-clause-stop c =
+    let list = c.args.list.now in
+    let v = c.terms.result.now in
+    let is : v ≡ get_or list c.args.index [] = c.terms.ensures ∙ c.index-list-index.is ∙ get_or_default list c.args.index c.index-list-index.result [] c.requires.index in
+    subst (λ w. IfErr c.product_row.result (ProductStops c.args.monomial.now w)) is c.product_row.ensures.stop

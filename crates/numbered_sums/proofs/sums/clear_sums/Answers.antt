@@ -2,7 +2,8 @@ use Rattle.std.proofs.Common.{ap, arith, get_or, length, sym, ◌<◌, ◌%◌, 
 use Rattle.std.proofs.lemmas.List.{get_or_default, length-set}
 use Rattle.residues.specs.Residues.{IsCongruent}
 use Rattle.formal_sums.proofs.Sameness.{IsSame_trans}
-use Rattle.numbered_sums.proofs.NumberedSums.{idle_rest, idle_sums, no_remainder, zeroed, zeroed_rest}
+use Rattle.numbered_sums.proofs.NumberedSums.{Each_set, idle_rest, idle_sums, no_remainder, zeroed, zeroed_rest}
+use Rattle.std.proofs.Math.Nat.{zero-mod}
 use Rattle.numbered_sums.proofs.sums.clear_sums.Goals as goal
 
 pub loop-number-preserved : goal.loop-number-preserved
@@ -22,6 +23,7 @@ loop-number-preserved c =
       count = length-set sums at 0 ∙ c.loop-number.invariant.count;
       same = λ n key. zeroed (omega (arith, one)) key at c.args.sums.now.items sums there z (c.loop-number.invariant.same n key);
       rest = zeroed_rest c.args.touched.now i sums c.loop-number.invariant.rest c.loop-number-test.true there;
+      none = λ h. Each_set (λ a. a % p ≡ 0) sums at 0 (c.loop-number.invariant.none h) (zero-mod p);
     }
 
 pub returns-clause-same : goal.returns-clause-same
