@@ -13,10 +13,9 @@ use Rattle.basis_steps.specs.Criteria.{IsPair, lcm_of}
 use Rattle.basis_steps.specs.Drops.{DividesProperly, YieldsTo}
 use Rattle.basis_steps.specs.Pairs.{Pair}
 use Rattle.basis_steps.specs.Updates.{IsOfGroup, Remains, YieldsFirstTo}
-use Rattle.pair_updates.specs.Dropping.{AreNewPairs, IsNewPair, new_pair_of}
+use Rattle.pair_updates.specs.Dropping.{AreNewPairs, IsNewPair}
 use Rattle.pair_updates.specs.FirstYields.{AreFirstYields, AreLowerYields, AreSettled, HasGroup, IsFirstAmong, IsFirstFrom, IsLowerYield, IsYieldSettled, NumbersRise, StandsFrom}
 use Rattle.pair_updates.specs.Leads.{LeadsShown, sums_shown}
-use Rattle.pair_updates.specs.declared.meeting.NewPair.{NewPair}
 
 -- ---- numbers that rise
 -- the item with this index, and one more
@@ -206,7 +205,7 @@ no_lower_yields m h = record {
 -- ---- the second turn
 -- before it each pair has its lower yield, or waits, or is none
 pub settled_first :
-    (m : LeadsShown) (h : ℕ) (news : List (Option NewPair)) (firsts : List (Option ℕ)) (active : List ℕ) → AreNewPairs m h news
+    (m : LeadsShown) (h : ℕ) (news : List (Option ℕ)) (firsts : List (Option ℕ)) (active : List ℕ) → AreNewPairs m h news
     → AreLowerYields m h h firsts active → AreSettled m h active 0 firsts []
 settled_first m h news firsts active all low = record {
   len = low.len;
@@ -216,10 +215,10 @@ settled_first m h news firsts active all low = record {
   within = tt;
 }
   where
-    waits : (i : ℕ) → i < h → get_or firsts i None ≡ None → (o : Option NewPair) → IsNewPair m h i o
+    waits : (i : ℕ) → i < h → get_or firsts i None ≡ None → (o : Option ℕ) → IsNewPair m h i o
         → (IsPair (sums_shown m) (i, h) → ⊥) ⊎ (StandsFrom active 0 i ⊎ (Remains (sums_shown m) h i × StandsFrom [] 0 i))
     waits i lt e None none = inl none
-    waits i lt e (Some y) some = inr (inl (low.all i lt e (subst (IsPair (sums_shown m)) some.1 (some.0).pair)))
+    waits i lt e (Some a) some = inr (inl (low.all i lt e some.pair))
 
     go : (i : ℕ) → i < h → (first : Option ℕ) → get_or firsts i None ≡ first → IsLowerYield (sums_shown m) h i first
         → IsYieldSettled (sums_shown m) h active 0 [] i first
@@ -400,13 +399,3 @@ pub group_all :
     → ((x : ℕ) → x < k → P (get_or cs x 0) → ⊥) → (l : ℕ) → IsOfGroup G h i l → P l → ⊥
 group_all G h i k cs P group end none l g p =
     let s = group.all l g in none s.at (let w = s.within in omega (arith, w, end)) (subst P (sym s.is) p)
-
--- ---- what the code meets
-pub found_first :
-    (m : LeadsShown) (h i : ℕ) (x : NewPair) (active : List ℕ) (from k : ℕ) → new_pair_of x ≡ (i, h) → from ≤ k → k < length active
-    → YieldsTo (sums_shown m) x.j x.i (get_or active k 0)
-    → ((z : ℕ) → from ≤ z → z < k → YieldsTo (sums_shown m) x.j x.i (get_or active z 0) → ⊥)
-    → IsFirstFrom (sums_shown m) h i active from (get_or active k 0)
-found_first m h i x active from k e late lt y none =
-    subst (λ (p : Pair). IsFirstFrom (sums_shown m) p.1 p.0 active from (get_or active k 0)) e
-    (record { stands = record { at = k; late = late; within = lt; is = refl }; yields = y; before = none })

@@ -6,15 +6,13 @@ use Rattle.std.proofs.lemmas.Nat.{and_comm}
 use Rattle.std.specs.Prelude.{bit_and}
 use Rattle.formal_sums.specs.FormalSums.{FormalSum}
 use Rattle.bases.specs.Leads.{leads}
-use Rattle.basis_steps.specs.Pairs.{Pair}
 use Rattle.pair_updates.proofs.RowMasks.{divisor_exceeds, implied_four, row_divisor, row_length}
 use Rattle.pair_updates.proofs.ToldRows.{told_below}
-use Rattle.pair_updates.specs.Dropping.{IsPairWithBits, new_pair_of}
+use Rattle.pair_updates.specs.Dropping.{IsPairWithBits}
 use Rattle.pair_updates.specs.FirstYields.{AreActive}
 use Rattle.pair_updates.specs.LeadCriteria.{DividesLcm}
 use Rattle.pair_updates.specs.Leads.{LeadsShown, sums_shown}
 use Rattle.pair_updates.specs.Rows.{TellsAll, bits_above, lead_row}
-use Rattle.pair_updates.specs.declared.meeting.NewPair.{NewPair}
 
 module _ (m : LeadsShown) where
   abbrev G : List (FormalSum m.variables)
@@ -48,14 +46,6 @@ module _ (m : LeadsShown) where
       (told_below (lead_row m j) (lead_row m h) (lead_row m i) (row_length 16 (leads G j).1) (row_length 16 (leads G h).1) (row_length 16 (leads G i).1)
       (ap₂ bit_and (sym ea) (sym eb) ∙ within ∙ ea) (subst TellsAll ea all)) in
       (d.0, λ t. (position t, d.1 t))
-
-  -- a pair that is met, by its indices
-  pub met_at : (h i : ℕ) (x : NewPair) → IsPairWithBits m x → new_pair_of x ≡ (i, h) → IsPairWithBits m (record { i = i; j = h; above = x.above })
-  met_at h i x met e =
-      subst (λ (p : Pair). IsPairWithBits m (record { i = p.0; j = p.1; above = x.above })) e (record { pair = met.pair; above = met.above })
-
-  pub other_pair : (h : ℕ) (y : NewPair) → IsPairWithBits m y → y.j ≡ h → IsPairWithBits m (record { i = y.i; j = h; above = y.above })
-  other_pair h y met e = met_at h y.i y met (ap (λ j. (y.i, j)) e)
 
   pub active_none : (h : ℕ) → AreActive m h [] []
   active_none h = record { len = refl; each = λ x lt. absurd (omega (arith, lt)) }

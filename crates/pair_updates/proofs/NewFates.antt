@@ -4,9 +4,8 @@ use Rattle.std.proofs.lemmas.Bool.{cases_lt}
 use Rattle.formal_sums.specs.FormalSums.{FormalSum}
 use Rattle.basis_steps.specs.Criteria.{lcm_of}
 use Rattle.basis_steps.specs.Drops.{YieldsTo}
-use Rattle.basis_steps.specs.Pairs.{Pair}
 use Rattle.basis_steps.specs.Updates.{IsFirstLive, IsFirstSpared, IsOfGroup, Remains, YieldsFirstTo}
-use Rattle.pair_updates.specs.Dropping.{AreNewPairs, IsFate, IsPairWithBits, IsNewIn, IsNewPair, new_pair_of}
+use Rattle.pair_updates.specs.Dropping.{AreNewPairs, IsFate, IsNewIn, IsNewPair}
 use Rattle.pair_updates.specs.declared.dropping.Fate.{Fate}
 use Rattle.pair_updates.specs.declared.dropping.Fate.TheVariants as fates
 use Rattle.pair_updates.specs.Leads.{LeadsShown, setting_of_leads, sums_shown}
@@ -21,7 +20,7 @@ below_next P k none not j l p = go (cases_lt j k)
     go (inl m) = none j m p
     go (inr m) = let e : j ≡ k = omega (arith, l, m) in not (subst P e p)
 
-module _ (m : LeadsShown) (news : List (Option NewPair)) (x : NewPair) (h : IsNewIn m news x) where
+module _ (m : LeadsShown) (news : List (Option ℕ)) (x : NewPair) (h : IsNewIn m news x) where
   abbrev n : ℕ
   n = m.variables
 
@@ -29,7 +28,7 @@ module _ (m : LeadsShown) (news : List (Option NewPair)) (x : NewPair) (h : IsNe
   G = sums_shown m
 
   -- the pair of j and the new member
-  pub new_at : (j : ℕ) (o : Option NewPair) → j < length news → get_or news j None ≡ o → IsNewPair m x.j j o
+  pub new_at : (j : ℕ) (o : Option ℕ) → j < length news → get_or news j None ≡ o → IsNewPair m x.j j o
   new_at j o l e = subst (IsNewPair m x.j j) e (h.pairs.each j (omega (arith, l, h.pairs.len)))
 
   -- a new pair yields to none where it does to none of the earlier members
@@ -88,20 +87,8 @@ module _ (m : LeadsShown) (news : List (Option NewPair)) (x : NewPair) (h : IsNe
   pub yield_fate : (k : ℕ) → YieldsFirstTo G x.j x.i k → IsFate (setting_of_leads n m) G x.j x.i (fates.Dropped k)
   yield_fate k y = (h.met.pair, inl y)
 
--- the pair that the list has for i is one of its new member's
-pub new_in :
-    (m : LeadsShown) (news : List (Option NewPair)) (h i : ℕ) (y : NewPair)
-    → AreNewPairs m h news → IsPairWithBits m y → new_pair_of y ≡ (i, h) → IsNewIn m news y
-new_in m news h i y all real e = record { pairs = subst (λ k. AreNewPairs m k news) (sym (ap (λ (p : Pair). p.1) e)) all; met = real }
-
--- so what becomes of it is what becomes of the pair of i
-pub fate_at :
-    (m : LeadsShown) (h i : ℕ) (y : NewPair) (f : Fate) → new_pair_of y ≡ (i, h)
-    → IsFate (setting_of_leads m.variables m) (sums_shown m) y.j y.i f → IsFate (setting_of_leads m.variables m) (sums_shown m) h i f
-fate_at m h i y f e is = subst (λ (p : Pair). IsFate (setting_of_leads m.variables m) (sums_shown m) p.1 p.0 f) e is
-
 -- what the list has for i
 pub news_at :
-    (m : LeadsShown) (news : List (Option NewPair)) (h i : ℕ) (o : Option NewPair)
+    (m : LeadsShown) (news : List (Option ℕ)) (h i : ℕ) (o : Option ℕ)
     → AreNewPairs m h news → i < h → get_or news i None ≡ o → IsNewPair m h i o
 news_at m news h i o all l e = subst (IsNewPair m h i) e (all.each i l)

@@ -25,17 +25,17 @@ pub record IsPairWithBits (m : LeadsShown) (x : NewPair) : Type 0 where
   pub pair : IsPair (sums_shown m) (new_pair_of x)
   pub above : x.above ≡ bits_above m x.i x.j
 
--- the pair of member i and the new member h, or nothing where their leads stand at two positions
-abbrev pub IsNewPair : LeadsShown → (h i : ℕ) → Option NewPair → Type 0
-IsNewPair m h i pair = MatchOption pair (IsPair (sums_shown m) (i, h) → ⊥) (λ x. IsPairWithBits m x × (new_pair_of x ≡ (i, h)))
+-- the bits of the pair of member i and the new member h, or nothing where their leads stand at two positions
+abbrev pub IsNewPair : LeadsShown → (h i : ℕ) → Option ℕ → Type 0
+IsNewPair m h i bits = MatchOption bits (IsPair (sums_shown m) (i, h) → ⊥) (λ a. IsPairWithBits m (record { i = i; j = h; above = a }))
 
 -- those of each earlier member and the new member h, in their order
-pub record AreNewPairs (m : LeadsShown) (h : ℕ) (pairs : List (Option NewPair)) : Type 0 where
+pub record AreNewPairs (m : LeadsShown) (h : ℕ) (pairs : List (Option ℕ)) : Type 0 where
   pub len : length pairs ≡ h
   pub each : (i : ℕ) → i < h → IsNewPair m h i (get_or pairs i None)
 
 -- the pair is one of those of its new member
-pub record IsNewIn (m : LeadsShown) (news : List (Option NewPair)) (x : NewPair) : Type 0 where
+pub record IsNewIn (m : LeadsShown) (news : List (Option ℕ)) (x : NewPair) : Type 0 where
   pub pairs : AreNewPairs m x.j news
   pub met : IsPairWithBits m x
 

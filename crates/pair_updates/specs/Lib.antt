@@ -1,5 +1,6 @@
 pub mod Leads
 pub mod Rows
+pub mod Seen
 pub mod Pairs
 pub mod LeadCriteria
 pub mod Queueing

@@ -92,37 +92,36 @@ pub(crate) fn yields_to(leads: &Leads, pair: &NewPair, j: usize, above: u64) -> 
     !lcm_is_reached(leads, j, h, i, above, pair.above)
 }
 
-// Have two pairs with one new member one lcm? Those that have not differ in their bits most often.
-fn have_one_lcm(leads: &Leads, pair: &NewPair, other: &NewPair) -> bool
+// Have the pair and that of j and the same new member, with these bits, one lcm? Those that have not differ in their bits most often.
+fn have_one_lcm(leads: &Leads, pair: &NewPair, j: usize, above: u64) -> bool
     requires pair { IsPairWithBits leads.now pair.now }
-    requires other { IsPairWithBits leads.now other.now }
-    requires one { other.now.j ≡ pair.now.j }
-    ensures { IsTrue result ↔ IsOfGroup (sums_shown leads.now) pair.now.j pair.now.i other.now.i }
+    requires other { IsPairWithBits leads.now (record { i = j; j = pair.now.j; above = above }) }
+    ensures { IsTrue result ↔ IsOfGroup (sums_shown leads.now) pair.now.j pair.now.i j }
 {
-    if other.above != pair.above {
+    if above != pair.above {
         return false;
     }
-    let (i, h, j) = (pair.i as usize, pair.j as usize, other.i as usize);
-    if !lcm_is_reached(leads, i, h, j, pair.above, other.above) {
+    let (i, h) = (pair.i as usize, pair.j as usize);
+    if !lcm_is_reached(leads, i, h, j, pair.above, above) {
         return false;
     }
-    lcm_is_reached(leads, j, h, i, other.above, pair.above)
+    lcm_is_reached(leads, j, h, i, above, pair.above)
 }
 
 // Are the pair and that of j with the same new member of one group?
-fn is_of_group(leads: &Leads, news: &[Option<NewPair>], pair: &NewPair, j: usize) -> bool
+fn is_of_group(leads: &Leads, news: &[Option<u64>], pair: &NewPair, j: usize) -> bool
     requires new { IsNewIn leads.now news.now pair.now }
     requires known { j < length news.now }
     ensures { IsTrue result ↔ IsOfGroup (sums_shown leads.now) pair.now.j pair.now.i j }
 {
-    match &news[j] {
-        Some(other) => have_one_lcm(leads, pair, other),
+    match news[j] {
+        Some(above) => have_one_lcm(leads, pair, j, above),
         None => false,
     }
 }
 
 // Is the pair of j and the new member of the group of the pair, and does the product criterion spare it?
-fn is_spared(leads: &Leads, news: &[Option<NewPair>], pair: &NewPair, j: usize) -> bool
+fn is_spared(leads: &Leads, news: &[Option<u64>], pair: &NewPair, j: usize) -> bool
     requires new { IsNewIn leads.now news.now pair.now }
     requires known { j < length news.now }
     ensures both { IsTrue result → IsOfGroup (sums_shown leads.now) pair.now.j pair.now.i j }
@@ -139,7 +138,7 @@ fn is_spared(leads: &Leads, news: &[Option<NewPair>], pair: &NewPair, j: usize) 
 // the whole group.
 fn first_spared(
     leads: &Leads,
-    news: &[Option<NewPair>],
+    news: &[Option<u64>],
     left: &[usize],
     pair: &NewPair,
 ) -> Option<usize>
@@ -159,7 +158,7 @@ fn first_spared(
 }
 
 // The first member of the group of the pair, where these members have the whole group.
-fn first_of_group(leads: &Leads, news: &[Option<NewPair>], left: &[usize], pair: &NewPair) -> usize
+fn first_of_group(leads: &Leads, news: &[Option<u64>], left: &[usize], pair: &NewPair) -> usize
     requires new { IsNewIn leads.now news.now pair.now }
     requires within { Each (λ c. c < length news.now) left.now }
     ensures member { IsOfGroup (sums_shown leads.now) pair.now.j pair.now.i result }
@@ -183,7 +182,7 @@ fn fate_behind(c: usize, i: usize, itself: Fate) -> Fate
 }
 
 // What becomes of the pair, which yields to none, where these members have its whole group.
-fn fate_in_group(leads: &Leads, news: &[Option<NewPair>], left: &[usize], pair: &NewPair) -> Fate
+fn fate_in_group(leads: &Leads, news: &[Option<u64>], left: &[usize], pair: &NewPair) -> Fate
     requires new { IsNewIn leads.now news.now pair.now }
     requires within { Each (λ c. c < length news.now) left.now }
     requires group { HasGroup (sums_shown leads.now) pair.now.j pair.now.i left.now }
@@ -204,7 +203,7 @@ fn fate_in_group(leads: &Leads, news: &[Option<NewPair>], left: &[usize], pair: 
 /// members have its whole group.
 pub(crate) fn fate_of_left(
     leads: &Leads,
-    news: &[Option<NewPair>],
+    news: &[Option<u64>],
     left: &[usize],
     h: usize,
     i: usize,
@@ -216,8 +215,15 @@ pub(crate) fn fate_of_left(
     requires known { i < h }
     ensures { IsFate (setting_of_leads leads.now.variables leads.now) (sums_shown leads.now) h i result }
 {
-    match &news[i] {
+    match news[i] {
         None => Fate::Apart,
-        Some(pair) => fate_in_group(leads, news, left, pair),
+        Some(above) => {
+            let pair = NewPair {
+                i: i as u64,
+                j: h as u64,
+                above,
+            };
+            fate_in_group(leads, news, left, &pair)
+        }
     }
 }

@@ -11,6 +11,7 @@ mod leads;
 mod meeting;
 mod merging;
 mod rows;
+mod seen;
 mod sorting;
 mod updating;
 mod yielding;

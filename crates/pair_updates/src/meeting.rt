@@ -19,9 +19,9 @@ pub(crate) struct NewPair {
     pub above: u64,
 }
 
-// The pair of i and the new member h, whose lead stands at this position and has these first exponents: nothing where that of i stands
-// at another.
-fn new_pair(leads: &Leads, i: usize, h: usize, position: u64, row: &[u16; 16]) -> Option<NewPair>
+// The word of the pair of i and the new member h, whose lead stands at this position and has these first exponents: nothing where that of
+// i stands at another.
+fn new_pair(leads: &Leads, i: usize, h: usize, position: u64, row: &[u16; 16]) -> Option<u64>
     requires order { i < h }
     requires within { h < length leads.now.keys }
     requires position { position ≡ (leads_of (sums_shown leads.now) h).0 }
@@ -31,20 +31,16 @@ fn new_pair(leads: &Leads, i: usize, h: usize, position: u64, row: &[u16; 16]) -
     if leads.at(i).position != position {
         return None;
     }
-    Some(NewPair {
-        i: i as u64,
-        j: h as u64,
-        above: exceeding_places(leads.row(i), row),
-    })
+    Some(exceeding_places(leads.row(i), row))
 }
 
-/// The pairs of each earlier member and member h, in their order: nothing where the leads stand at two positions.
+/// The words of the pairs of each earlier member and member h, in their order: nothing where the leads stand at two positions.
 #[inline(never)]
 pub(crate) fn pairs_with(
     alloc: Global,
     leads: &Leads,
     h: usize,
-) -> Result<Vec<Option<NewPair>>, NoMemory>
+) -> Result<Vec<Option<u64>>, NoMemory>
     requires { h < length leads.now.keys }
     ensures { IfOk result (λ pairs. AreNewPairs leads.now h pairs.items) }
 {

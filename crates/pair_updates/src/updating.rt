@@ -16,7 +16,7 @@ use crate::dropped::Dropped;
 use crate::dropping::{Fate, fate_of_left, leaves_by_row, leaves_for};
 use crate::joining::push_pair;
 use crate::leads::Leads;
-use crate::meeting::{NewPair, pairs_with};
+use crate::meeting::pairs_with;
 use crate::merging::merge;
 use crate::sorting::sort_pairs;
 use crate::yielding::{FirstYields, first_yields};
@@ -24,6 +24,9 @@ use module_vectors::NoMemory;
 use pair_criteria::Pair;
 use std::alloc::Global;
 use std::collections::VecDeque;
+
+// Room for at most so many dropped pairs is made at once.
+const ROOM: usize = 65536;
 
 // Copies of the pairs.
 fn copies(alloc: Global, pairs: &[Pair]) -> Result<Vec<Pair>, NoMemory>
@@ -117,7 +120,7 @@ fn stay(
 fn join_left(
     alloc: Global,
     leads: &Leads,
-    news: &[Option<NewPair>],
+    news: &[Option<u64>],
     left: &[usize],
     h: usize,
     i: usize,
@@ -158,7 +161,7 @@ fn join_left(
 fn join_one(
     alloc: Global,
     leads: &Leads,
-    news: &[Option<NewPair>],
+    news: &[Option<u64>],
     yields: &FirstYields,
     h: usize,
     i: usize,
@@ -253,7 +256,9 @@ pub fn updated(
 {
     let mut kept = copies(alloc, queue)?;
     let mut queued = Vec::new(alloc);
-    let mut dropped = Vec::new(alloc);
+    // Most pairs of a new member are dropped, and a list that grows on the way is copied several times.
+    let many = (leads.len() - first).saturating_mul(leads.len());
+    let mut dropped = Vec::with_capacity(alloc, many.min(ROOM))?;
     for h in first..leads.len() {
         update_with(alloc, leads, h, &mut kept, &mut queued, &mut dropped)?;
     }

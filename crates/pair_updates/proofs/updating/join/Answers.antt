@@ -4,7 +4,6 @@ use Rattle.pair_updates.specs.Dropping.{AreNewPairs, drops_of}
 use Rattle.pair_updates.specs.Pairs.{pairs_of}
 use Rattle.pair_updates.specs.FirstYields.{AreFirstYields}
 use Rattle.pair_updates.specs.Updating.{Joining}
-use Rattle.pair_updates.specs.declared.meeting.NewPair.{NewPair}
 use Rattle.pair_updates.proofs.updating.join.Goals as goal
 
 pub loop-i-init : goal.loop-i-init
@@ -20,7 +19,7 @@ pub join_one-requires : goal.join_one-requires
 join_one-requires c = record {
   within = c.requires.within;
   known = c.loop-i-test.true;
-  news = subst (λ (l : List (Option NewPair)). AreNewPairs c.args.leads.now c.args.h l) (sym c.deref-in-loop-i.ensures.value) c.loop-i.invariant.news;
+  news = subst (λ (l : List (Option ℕ)). AreNewPairs c.args.leads.now c.args.h l) (sym c.deref-in-loop-i.ensures.value) c.loop-i.invariant.news;
   yields = c.loop-i.invariant.yields;
   real = c.loop-i.invariant.real;
 }
@@ -41,5 +40,5 @@ returns c =
 
 pub first_yields-requires : goal.first_yields-requires
 first_yields-requires c =
-    subst (λ (l : List (Option NewPair)). AreNewPairs c.args.leads.now (length l) l) (sym c.deref.ensures.value)
+    subst (λ (l : List (Option ℕ)). AreNewPairs c.args.leads.now (length l) l) (sym c.deref.ensures.value)
     (subst (λ (k : ℕ). AreNewPairs c.args.leads.now k c.in_ok-news.news.items) (sym (c.in_ok-news.ensures).len) c.in_ok-news.ensures)

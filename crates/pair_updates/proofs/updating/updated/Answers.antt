@@ -20,7 +20,7 @@ loop-h-init c =
     let none = updating_none m c.args.first c.args.queue.now c.requires.real c.requires.earlier c.requires.sorted
     (sorted_once (setting_of_leads m.variables m) (sums_shown m) total (pairs_of c.args.queue.now) c.requires.sorted) in
     record {
-      updating = rw (c.new-queued.ensures.items, c.new-dropped.ensures.items)
+      updating = rw (c.new-queued.ensures.items, c.in_ok-dropped.ensures.items)
           (subst (λ (kept : List CodePair). Updating m c.args.first c.args.first (pairs_of c.args.queue.now) [] kept [] []) (sym c.in_ok-kept.ensures) none);
       low = omega arith;
       high = omega (arith, c.requires.first);

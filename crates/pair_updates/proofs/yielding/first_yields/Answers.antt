@@ -1,12 +1,26 @@
 use Rattle.std.proofs.Common.{List, arith, length, subst, sym, ℕ, ◌≡◌}
-use Rattle.pair_updates.proofs.FirstYields.{all_settled, settled_first}
+use Rattle.pair_updates.proofs.FirstYields.{all_settled, no_lower_yields, settled_first}
+use Rattle.pair_updates.proofs.MetPairs.{active_none}
 use Rattle.pair_updates.specs.FirstYields.{AreLowerYields, AreSettled}
 use Rattle.pair_updates.proofs.yielding.first_yields.Goals as goal
+
+pub loop-i-init : goal.loop-i-init
+loop-i-init c =
+    let m = c.args.leads.now in
+    let h = length c.args.news.now in
+    record {
+      lower = rw (c.in_ok-firsts.ensures.items, c.in_ok-with_capacity.ensures.items) (no_lower_yields m h);
+      active = rw (c.in_ok-with_capacity.ensures.items, c.in_ok-with_capacity-2.ensures.items) (active_none m h);
+      seen = c.no_words-seen.ensures c.in_ok-with_capacity-2.field-0.items;
+      len = omega (arith, c.in_ok-firsts.ensures.len);
+      room = omega (arith, c.in_ok-firsts.ensures.capacity);
+    }
 
 pub loop-i-preserved : goal.loop-i-preserved
 loop-i-preserved c = record {
   lower = c.in_ok-look_below.ensures.lower c.loop-i.invariant.lower;
   active = c.in_ok-look_below.ensures.active;
+  seen = c.in_ok-look_below.ensures.seen;
   len = omega (arith, c.in_ok-look_below.ensures.len, c.loop-i.invariant.len);
   room = omega (arith, c.in_ok-look_below.ensures.capacity, c.loop-i.invariant.room);
 }
@@ -27,6 +41,7 @@ loop-k-init c =
         ),
       );
       active = c.loop-i.invariant.active;
+      seen = c.loop-i.invariant.seen;
       long = whole.len;
     }
 
@@ -36,6 +51,7 @@ loop-k-preserved c =
     record {
       settled = (old.0, (old.1.0, c.in_ok-look_above.ensures.settled old.0 old.1.0 old.1.1));
       active = c.loop-k.invariant.active;
+      seen = c.in_ok-look_above.ensures.seen;
       long = c.in_ok-look_above.ensures.long;
     }
 

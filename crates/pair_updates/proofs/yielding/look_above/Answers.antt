@@ -16,7 +16,7 @@ returns-in-Some-clause-settled c = λ lower low old.
     let at = get_or_default active k 0 c.index-i.result.now c.requires.k ∙ sym c.index-i.ensures in
     subst (λ (r : ℕ). IsFirstAmong (sums_shown m) h r active (k + 1) (Some c.in-Some.c) → AreSettled m h active (k + 1) (set firsts r (Some c.in-Some.c)) left) at
     (λ f. settled_some m h k lower active low c.requires.k firsts left old c.in-Some.c (now_yields m h k lower active low c.requires.k c.in-Some.c f))
-    c.in-Some.ensures
+    c.in-Some.ensures.first
 
 pub returns-in_ok-push-in-None-clause-settled : goal.returns-in_ok-push-in-None-clause-settled
 returns-in_ok-push-in-None-clause-settled c = λ lower low old.
@@ -30,4 +30,4 @@ returns-in_ok-push-in-None-clause-settled c = λ lower low old.
     subst (λ (l : List ℕ). AreSettled m h active (k + 1) firsts l) (sym c.in_ok-push-in-None.ensures.items)
     (subst (λ (r : ℕ). IsFirstAmong (sums_shown m) h r active (k + 1) None → AreSettled m h active (k + 1) firsts (left ++ r ∷ [])) at
     (λ f. settled_none m h k lower active low c.requires.k firsts left old (now_remains m h k lower active low c.requires.k f))
-    c.in-None.ensures)
+    c.in-None.ensures.first)
