@@ -11,10 +11,9 @@ use Rattle.term_lists.proofs.Parts.{Each_member}
 use Rattle.basis_steps.proofs.Dropping.{proper_degree}
 use Rattle.basis_steps.specs.Criteria.{IsPair, lcm_of}
 use Rattle.basis_steps.specs.Drops.{DividesProperly, YieldsTo}
-use Rattle.basis_steps.specs.Pairs.{Pair}
 use Rattle.basis_steps.specs.Updates.{IsOfGroup, Remains, YieldsFirstTo}
 use Rattle.pair_updates.specs.Dropping.{AreNewPairs, IsNewPair}
-use Rattle.pair_updates.specs.FirstYields.{AreFirstYields, AreLowerYields, AreSettled, HasGroup, IsFirstAmong, IsFirstFrom, IsLowerYield, IsYieldSettled, NumbersRise, StandsFrom}
+use Rattle.pair_updates.specs.FirstYields.{AreFirstYields, AreLowerYields, AreSettled, HasGroup, IsFirstAmong, IsLowerYield, IsYieldSettled, NumbersRise, StandsFrom}
 use Rattle.pair_updates.specs.Leads.{LeadsShown, sums_shown}
 
 -- ---- numbers that rise

@@ -19,7 +19,6 @@ pub mod MetPairs
 pub mod ProperDivisors
 pub mod NewFates
 pub mod WordsBelow
-pub mod SeenWords
 pub mod PassedPairs
 pub mod FirstYields
 pub mod CopiedPairs

@@ -1,5 +1,5 @@
 -- What becomes of a new pair, by tests on the lcms of its new member's pairs
-use Rattle.std.proofs.Common.{List, None, Option, ap, arith, get_or, inl, inr, length, subst, sym, ℕ, ◌+◌, ◌<◌, ◌≡◌, ◌≤◌, ◌⊎◌}
+use Rattle.std.proofs.Common.{List, None, Option, arith, get_or, inl, inr, length, subst, sym, ℕ, ◌+◌, ◌<◌, ◌≡◌, ◌≤◌, ◌⊎◌}
 use Rattle.std.proofs.lemmas.Bool.{cases_lt}
 use Rattle.formal_sums.specs.FormalSums.{FormalSum}
 use Rattle.basis_steps.specs.Criteria.{lcm_of}

@@ -36,7 +36,7 @@ drop_both (d ∷ ys) n i j l m =
     ∙ (λ t. set (set (drop n xs) i (sym (get_or-drop n xs j d) t)) j (sym (get_or-drop n xs i d) t))
     ∙ swap_is (drop n xs) i j d (omega (arith, length-drop n xs, l)) (omega (arith, length-drop n xs, m))
 
-pub each_set : {X : Type 0} (P : X → Type 0) (xs : List X) (i : ℕ) (y : X) → Each P xs → P y → Each P (set xs i y)
+each_set : {X : Type 0} (P : X → Type 0) (xs : List X) (i : ℕ) (y : X) → Each P xs → P y → Each P (set xs i y)
 each_set P [] i y h p = tt
 each_set P (x ∷ xs) zero y h p = (p, h.1)
 each_set P (x ∷ xs) (suc i) y h p = (h.0, each_set P xs i y h.1 p)

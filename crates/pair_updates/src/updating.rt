@@ -258,7 +258,7 @@ pub fn updated(
     let mut queued = Vec::new(alloc);
     // Most pairs of a new member are dropped, and a list that grows on the way is copied several times.
     let many = (leads.len() - first).saturating_mul(leads.len());
-    let mut dropped = Vec::with_capacity(alloc, many.min(ROOM))?;
+    let mut dropped = Vec::with_capacity(alloc, many.min(ROOM).next_power_of_two())?;
     for h in first..leads.len() {
         update_with(alloc, leads, h, &mut kept, &mut queued, &mut dropped)?;
     }
