@@ -31,6 +31,17 @@ fn push_constant(
     Ok(())
 }
 
+// How many of the terms are constants, for room alone.
+fn count_constants(terms: &[(Key, u32)]) -> usize {
+    let mut count: usize = 0;
+    for term in terms {
+        if term.0.monomial.degree() == 0 {
+            count = count.wrapping_add(1);
+        }
+    }
+    count
+}
+
 // The constants of a vector.
 fn constant_vector(alloc: Global, ring: &Ring, v: &Vect) -> Result<Vect, NoMemory>
     requires { AreTermsOver ring.now v.now }
@@ -38,7 +49,7 @@ fn constant_vector(alloc: Global, ring: &Ring, v: &Vect) -> Result<Vect, NoMemor
     ensures sum { IfOk result (λ u. StandsFor ring.now u (constant_part (sum_of (variables ring.now) v.now))) }
 {
     lawful_setting(ring);
-    let mut kept = Vec::new(alloc);
+    let mut kept = Vec::with_capacity(alloc, count_constants(v.terms()))?;
     for term in v.terms() {
         push_constant(alloc, ring, term, &mut kept)?;
     }
