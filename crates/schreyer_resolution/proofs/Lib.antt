@@ -11,4 +11,5 @@ pub mod Pairing
 pub mod FreeRows
 pub mod Substitution
 pub mod Rows
+pub mod Turns
 pub mod SharedColumns

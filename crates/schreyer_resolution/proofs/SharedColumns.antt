@@ -1,6 +1,5 @@
 -- A column by quotients that strictly descend
-use Rattle.std.specs.Prelude.{IfSome}
-use Rattle.std.proofs.Common.{List, None, Option, Some, [], ap, arith, drop, get_or, length, map, mod-eq_of_lt, mod-lt, refl, subst, suc, sym, take, Greater, ℕ, ◌%◌, ◌+◌, ◌++◌, ◌-◌, ◌<◌, ◌≤◌, ◌∙◌, ◌∷◌, ◌≡◌}
+use Rattle.std.proofs.Common.{List, [], ap, ap₂, arith, drop, get_or, length, map, mod-eq_of_lt, mod-lt, refl, subst, suc, sym, take, Greater, ℕ, ◌%◌, ◌+◌, ◌++◌, ◌-◌, ◌<◌, ◌≤◌, ◌∙◌, ◌∷◌, ◌≡◌}
 use Rattle.std.specs.declared.cmp.Ordering.{Ordering}
 use Rattle.std.proofs.lemmas.List.{get_or_default, length-map, map-append}
 use Rattle.monomials.specs.Exponents.{exponents_of}
@@ -29,8 +28,10 @@ use Rattle.schreyer_resolution.proofs.FirstMaps.{pair_at}
 use Rattle.schreyer_resolution.proofs.Trailing.{key_inside}
 use Rattle.schreyer_resolution.specs.Columns.{AreColumnsTo, IsColumnOf, negated_term}
 use Rattle.numbered_sums.specs.ProductEntries.{AreReduced}
+use Rattle.numbered_sums.specs.declared.products.Product.{Product}
 use Rattle.schreyer_resolution.specs.Sharing.{AreLastQuotients, AreColumnsMade, IsLastQuotient, IsColumnMade}
 use Rattle.schreyer_resolution.specs.Steps.{IsLastDivisor}
+use Rattle.schreyer_resolution.specs.Turns.{product_term, quotient_at, quotients_at}
 
 abbrev Terms : Type 0
 Terms = List (CodeKey × ℕ)
@@ -133,21 +134,25 @@ descends_more n compare order terms i j a b e lt at bt h g =
     subst (Descends compare) (sym both) (descends_pushed compare order (sum_of n (take j terms)) (view a) (view b) (subst (Descends compare) first_sum h) g)
 
 -- ---- the columns that are made
-pub if_some : {X : Type 0} (P : X → Type 0) (o : Option X) → ((x : X) → P x) → IfSome o P
-if_some P None f = tt
-if_some P (Some x) f = f x
-
 pub made_of :
-    (ring : Ring) (cols : List Terms) (t : Tower) (key : CodeKey) (qs : List ScaledProduct) (items : Terms) (o : Option Terms)
-    → AreLastQuotients ring cols key qs → t.ring ≡ ring → items ≡ (key, 1) ∷ map (negated_term ring.modulus.value) qs
-    → IfSome o (λ v. v ≡ items) → IfSome o (λ _. IsVectorOver t.ring (tower_comparison t) items) → IfSome o (IsColumnMade ring cols t key)
-made_of ring cols t key qs items None h over is a b = tt
-made_of ring cols t key qs items (Some v) h over is a b = record {
-  quotients = qs;
-  of_product = h;
-  is = a ∙ is;
-  vector = subst (λ r. IsVectorOver r (tower_comparison t) v) over (subst (IsVectorOver t.ring (tower_comparison t)) (sym a) b);
-}
+    (ring : Ring) (cols : List Terms) (t : Tower) (key : CodeKey) (products : List Product) (terms : Terms) (taken : List (ℕ × ℕ)) (made : Terms)
+    → 1 < ring.modulus.value → IsMonomialOver ring key.monomial → t.ring ≡ ring → terms ≡ map product_term products
+    → AreLastQuotients ring cols key (quotients_at products taken)
+    → made ≡ (key, 1) ∷ map (negated_term t.ring.modulus.value) (map (quotient_at terms) taken)
+    → Descends (tower_comparison t (variables t.ring)) (sum_of (variables t.ring) made) → IsColumnMade ring cols t key made
+made_of ring cols t key products terms taken made one w over by h is descends =
+    let qs = quotients_at products taken in
+    let here : made ≡ (key, 1) ∷ map (negated_term ring.modulus.value) qs =
+    is ∙ ap₂ (λ (r : Ring) (ts : Terms). (key, 1) ∷ map (negated_term r.modulus.value) (map (quotient_at ts) taken)) over by in
+    record {
+      quotients = qs;
+      of_product = h;
+      is = here;
+      vector = record {
+        each = subst (Each (IsTerm (variables ring) ring.weights ring.modulus.value)) (sym here) (column_terms_over ring cols key qs one w h.each);
+        descends = subst (λ r. Descends (tower_comparison t (variables r)) (sum_of (variables r) made)) over descends;
+      };
+    }
 
 pub made_none : (ring : Ring) (cols : List Terms) (t : Tower) (keys : List CodeKey) → AreColumnsMade ring cols t keys 0 []
 made_none ring cols t keys = record { sized = refl; each = λ c k lt. absurd (omega (arith, lt)) }

@@ -5,5 +5,6 @@ pub mod Columns
 pub mod Chains
 pub mod Sorting
 pub mod Progress
+pub mod Turns
 pub mod FreeKeys
 pub mod Sharing

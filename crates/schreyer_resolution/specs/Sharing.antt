@@ -16,9 +16,11 @@ use Rattle.resolution_maps.specs.Inducing.{Tower, tower_comparison}
 use Rattle.numbered_sums.specs.KeySums.{AreSmall, AreTouched, numbered_sum}
 use Rattle.numbered_sums.specs.ProductEntries.{multiple_at}
 use Rattle.numbered_sums.specs.declared.products.Product.{Product}
+use Rattle.numbered_sums.specs.declared.work.Work.{Work}
 use Rattle.schreyer_resolution.specs.Columns.{negated_term}
 use Rattle.schreyer_resolution.specs.FreeKeys.{IsProductUpToFree}
 use Rattle.schreyer_resolution.specs.Steps.{IsLastDivisor}
+use Rattle.schreyer_resolution.specs.Turns.{quotients_at}
 
 -- a product of the last column that divides its lead, by numbers of these keys, but for terms whose keys no lead divides
 pub record IsLastProduct (ring : Ring) (columns : List (List (CodeKey × ℕ))) (keys : List CodeKey) (s : Product) : Type 0 where
@@ -55,6 +57,11 @@ pub record AreTakenQuotients (ring : Ring) (columns : List (List (CodeKey × ℕ
       let n = variables ring in
       IsSame ring.modulus.value (multiple_at ring columns k.position k.monomial)
       ((combination (sums_of n columns) (cofactors_of n qs) ++ numbered_sum (column_key n keys) 0 sums) ++ rest)
+
+-- the quotients by these products at such places were taken away of the key's product, and the sums at work are left
+abbrev pub AreTakenAway : Ring → List (List (CodeKey × ℕ)) → List CodeKey → CodeKey → List Product → List (ℕ × ℕ) → Work → Type 0
+AreTakenAway ring columns keys k products taken work =
+    AreTakenQuotients ring columns keys k (quotients_at products taken) work.sums.items work.touched.items
 
 -- the key's product is the sum of such quotients' products
 pub record AreLastQuotients (ring : Ring) (columns : List (List (CodeKey × ℕ))) (k : CodeKey) (qs : List ScaledProduct) : Type 0 where

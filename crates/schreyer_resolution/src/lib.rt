@@ -10,6 +10,7 @@
 mod column;
 mod free_entries;
 mod numbered;
+mod ordering;
 mod resolving;
 mod shared;
 mod sorting;

@@ -1,10 +1,9 @@
 // The columns of the next map by products that they share.
-ghost use Rattle.std.specs.Prelude.{◌≡◌, ◌<◌, ◌++◌, ◌∷◌, [], IfOk, IfSome, IsTrue, OnOk, length, map};
-ghost use Rattle.std.specs.declared.cmp.Ordering.TheVariants.{Greater};
+ghost use Rattle.std.specs.Prelude.{◌≡◌, ◌<◌, ◌++◌, ◌∷◌, [], IfOk, IfSome, OnOk, length, map};
 ghost use Rattle.formal_sums.specs.FormalSums.{Each};
 ghost use Rattle.orders.specs.KeyOrders.{Descends};
 ghost use Rattle.term_lists.specs.Rings.{variables};
-ghost use Rattle.term_lists.specs.Vectors.{AreVectorsOver, IsMonomialOver, IsTerm, IsVectorOver, key_of, sum_of, sums_of};
+ghost use Rattle.term_lists.specs.Vectors.{AreVectorsOver, IsMonomialOver, key_of, sum_of, sums_of};
 ghost use Rattle.vector_division.specs.Progress.{AreWeighed};
 ghost use Rattle.resolution_maps.specs.Inducing.{tower_comparison};
 ghost use Rattle.induced_leads.specs.Pairs.{AreNonzero};
@@ -15,54 +14,17 @@ ghost use Rattle.numbered_sums.specs.KeySums.{AreZeroSums};
 ghost use Rattle.numbered_sums.specs.ProductEntries.{AreReduced};
 ghost use Rattle.schreyer_resolution.specs.FreeKeys.{AreFreeMembersZero, IsProductUpToFree};
 ghost use Rattle.schreyer_resolution.specs.Sharing.{AreColumnsMade, AreStarts, IsColumnMade, IsLastProduct, entry_lists};
+ghost use Rattle.schreyer_resolution.specs.Turns.{product_term};
 
-use crate::column::column_terms;
 use crate::free_entries::{cut_products, cut_starts};
 use crate::numbered::{all_products, start_rows};
-use crate::substituting::quotients_of;
+use crate::ordering::{descends, product_terms, sort_products, taken_terms};
+use crate::substituting::take_quotients;
 use induced_leads::{Induced, LeadIndex};
 use module_vectors::{Frame, Key, NoMemory, Ring, Vect, VectList, lawful_setting};
 use numbered_sums::{Order, Product, Work, column_hashes, no_work, order_of};
 use row_matrix::{KeyTable, ProductStop};
 use std::alloc::Global;
-use std::cmp::Ordering;
-
-// Is this `Greater`?
-fn is_greater(order: Ordering) -> bool
-    ensures { IsTrue result → order ≡ Greater }
-{
-    match order {
-        Ordering::Greater => true,
-        _ => false,
-    }
-}
-
-// Do the terms strictly descend in the frame's order?
-fn descends<F: Frame>(frame: &F, terms: &[(Key, u32)]) -> bool
-    requires { Each (λ t. IsMonomialOver (F.over frame.now) t.0.monomial) terms.now }
-    ensures { let n = variables (F.over frame.now) in IsTrue result → Descends (F.compare frame.now n) (sum_of n terms.now) }
-{
-    for i in 1..terms.len() {
-        let above = &terms[i - 1].0;
-        let below = &terms[i].0;
-        if !is_greater(frame.cmp(above, below)) {
-            return false;
-        }
-    }
-    true
-}
-
-// The vector of these terms; none where they do not strictly descend.
-fn ordered_column(induced: &Induced<'_>, terms: Vec<(Key, u32)>) -> Option<Vect>
-    requires { let ring = induced.now.ring in Each (IsTerm (variables ring) ring.weights ring.modulus.value) terms.items }
-    ensures is { IfSome result (λ v. v ≡ terms.items) }
-    ensures vector { IfSome result (λ _. IsVectorOver induced.now.ring (tower_comparison induced.now) terms.items) }
-{
-    if descends(induced, &terms) {
-        return Some(Vect::from_ordered(induced, terms));
-    }
-    None
-}
 
 // The column with this lead; none where a test fails.
 fn shared_column(
@@ -73,14 +35,18 @@ fn shared_column(
     numbers: &KeyTable,
     key: &Key,
     products: &[Product],
+    terms: &[(Key, u32)],
     order: &Order,
     start: &[(u32, u32)],
+    taken: &mut Vec<(u32, u32)>,
     work: &mut Work,
 ) -> Result<Option<Vect>, NoMemory>
     requires over { induced.now.ring ≡ ring.now }
     requires monomial { IsMonomialOver ring.now key.now.monomial }
     requires base { AreFreeMembersZero ring.now columns.now }
     requires products { Each (IsLastProduct ring.now columns.now numbers.now) products.now }
+    requires terms { terms.now ≡ map product_term products.now }
+    requires descend { let n = variables ring.now in Descends (tower_comparison induced.now n) (sum_of n terms.now) }
     requires start { IsProductUpToFree ring.now columns.now numbers.now key.now.position key.now.monomial start.now }
     requires count { length work.old.sums.items ≡ length numbers.now }
     requires idle { AreZeroSums work.old.sums.items }
@@ -88,17 +54,17 @@ fn shared_column(
     ensures idle { IfOk result (λ made. IfSome made (λ _. AreZeroSums work.new.sums.items)) }
     ensures count { IfOk result (λ made. IfSome made (λ _. length work.new.sums.items ≡ length numbers.now)) }
 {
-    let modulus = &ring.modulus;
-    modulus.domain();
-    let found = quotients_of(
-        alloc, ring, columns, numbers, key, products, order, start, work,
+    ring.modulus.domain();
+    let done = take_quotients(
+        ring, columns, numbers, key, products, order, start, taken, work,
     )?;
+    if !done {
+        return Ok(None);
+    }
+    let found = taken_terms(alloc, induced, key, terms, taken)?;
     match found {
         None => Ok(None),
-        Some(quotients) => {
-            let terms = column_terms(alloc, modulus, key, quotients)?;
-            Ok(ordered_column(induced, terms))
-        }
+        Some(made) => Ok(Some(Vect::from_ordered(induced, made))),
     }
 }
 
@@ -119,6 +85,7 @@ fn columns_by(
     numbers: &KeyTable,
     keys: &[Key],
     products: &[Product],
+    terms: &[(Key, u32)],
     order: &Order,
     starts: &[Vec<(u32, u32)>],
     work: &mut Work,
@@ -127,15 +94,19 @@ fn columns_by(
     requires base { AreFreeMembersZero ring.now columns.now }
     requires monomials { Each (λ k. IsMonomialOver ring.now k.monomial) keys.now }
     requires products { Each (IsLastProduct ring.now columns.now numbers.now) products.now }
+    requires terms { terms.now ≡ map product_term products.now }
+    requires descend { let n = variables ring.now in Descends (tower_comparison induced.now n) (sum_of n terms.now) }
     requires starts { AreStarts ring.now columns.now numbers.now keys.now (length keys.now) (entry_lists starts.now) }
     requires count { length work.old.sums.items ≡ length numbers.now }
     requires idle { AreZeroSums work.old.sums.items }
     ensures { IfOk result (λ made. IfSome made (λ next. AreColumnsMade ring.now columns.now induced.now keys.now (length keys.now) next.items)) }
 {
     let mut next = Vec::with_capacity(alloc, keys.len())?;
+    let mut taken = Vec::new(alloc);
     for i in 0..keys.len() {
         match shared_column(
-            alloc, ring, induced, columns, numbers, &keys[i], products, order, &starts[i], work,
+            alloc, ring, induced, columns, numbers, &keys[i], products, terms, order, &starts[i],
+            &mut taken, work,
         )? {
             None => return Ok(None),
             Some(made) => push_column(made, &mut next)?,
@@ -181,9 +152,15 @@ fn made_columns<F: Frame>(
     cut_products(ring, columns, &numbers, &free, &mut products);
     cut_starts(ring, columns, &numbers, &free, keys, &mut starts);
     let order = order_of(alloc, frame, &numbers, &products)?;
+    sort_products(ring, columns, &numbers, &order, &mut products);
+    let terms = product_terms(alloc, &products)?;
+    if !descends(induced, &terms) {
+        return Ok(None);
+    }
     let mut work = no_work(alloc, numbers.len())?;
     let made = columns_by(
-        alloc, ring, induced, columns, &numbers, keys, &products, &order, &starts, &mut work,
+        alloc, ring, induced, columns, &numbers, keys, &products, &terms, &order, &starts,
+        &mut work,
     )?;
     Ok(made)
 }

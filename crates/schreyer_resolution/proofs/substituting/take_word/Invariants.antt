@@ -1,5 +1,5 @@
-use Rattle.schreyer_resolution.specs.Sharing.{AreTakenQuotients}
+use Rattle.schreyer_resolution.specs.Sharing.{AreTakenAway}
 use Rattle.schreyer_resolution.proofs.substituting.take_word.Given as goal
 
 abbrev pub invariant-bits : goal.invariant-bits
-invariant-bits l = AreTakenQuotients l.ring l.columns l.numbers l.key l.quotients.items l.work.sums.items l.work.touched.items
+invariant-bits l = AreTakenAway l.ring l.columns l.numbers l.key l.products l.taken.items l.work

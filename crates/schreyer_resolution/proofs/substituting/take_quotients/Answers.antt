@@ -1,4 +1,4 @@
-use Rattle.std.proofs.Common.{[], ap, arith, get_or, inl, length, refl, subst, sym, ◌<◌, ◌^◌, ◌≡◌}
+use Rattle.std.proofs.Common.{ap, arith, get_or, inl, length, subst, subst₂, sym, ◌<◌, ◌^◌, ◌≡◌}
 use Rattle.std.proofs.lemmas.List.{get_or_default}
 use Rattle.formal_sums.proofs.Combining.{Each_map}
 use Rattle.term_lists.proofs.Scaling.{Each_at}
@@ -8,7 +8,8 @@ use Rattle.numbered_sums.proofs.Taking.{written_back}
 use Rattle.schreyer_resolution.proofs.Substitution.{taken_all, taken_start}
 use Rattle.numbered_sums.specs.KeySums.{AddsProduct, AreEntriesWithin, AreSmall, AreZeroSums}
 use Rattle.schreyer_resolution.specs.Sharing.{AreTakenQuotients}
-use Rattle.schreyer_resolution.proofs.substituting.quotients_of.Goals as goal
+use Rattle.schreyer_resolution.specs.Turns.{quotients_at}
+use Rattle.schreyer_resolution.proofs.substituting.take_quotients.Goals as goal
 
 pub add_multiple-requires-clause-small : goal.add_multiple-requires-clause-small
 add_multiple-requires-clause-small c =
@@ -37,15 +38,15 @@ take_all-requires-clause-taken c =
     subst (λ xs. AddsProduct p 1 c.args.start.now xs new) c.as_mut_slice.ensures.value c.in_ok-add_multiple.ensures.adds in
     let count : length new ≡ length sums.items = adds.count in
     let whole : sums.len ≡ length new = omega (arith, count, c.as_mut_slice.ensures.len, ap length c.as_mut_slice.ensures.value) in
-    subst (λ ns. AreTakenQuotients ring c.args.columns.now c.args.numbers.now c.args.key.now [] ns c.add_multiple.new.touched.items)
-    (sym (written_back sums.len new sums.items whole))
-    (taken_start ring c.args.columns.now c.args.numbers.now c.args.key.now c.args.start.now sums.items new c.add_multiple.new.touched.items
-    c.requires.count c.requires.idle c.requires.start adds c.in_ok-add_multiple.ensures.small c.in_ok-add_multiple.ensures.touched)
+    let start = taken_start ring c.args.columns.now c.args.numbers.now c.args.key.now c.args.start.now sums.items new c.add_multiple.new.touched.items
+    c.requires.count c.requires.idle c.requires.start adds c.in_ok-add_multiple.ensures.small c.in_ok-add_multiple.ensures.touched in
+    subst₂ (λ qs ns. AreTakenQuotients ring c.args.columns.now c.args.numbers.now c.args.key.now qs ns c.add_multiple.new.touched.items)
+    (sym (ap (quotients_at c.args.products.now) c.clear.ensures.items)) (sym (written_back sums.len new sums.items whole)) start
 
-pub returns-then-clear_sums-clause-quotients : goal.returns-then-clear_sums-clause-quotients
-returns-then-clear_sums-clause-quotients c =
+pub returns-clause-quotients : goal.returns-clause-quotients
+returns-clause-quotients c = λ none.
     let n = variables c.args.ring.now in
     let one : 1 < c.args.ring.now.modulus.value = c.domain.ensures.above_one in
-    taken_all c.args.ring.now c.args.columns.now c.args.numbers.now c.args.key.now c.in_ok-quotients.quotients.items c.take_all.new.work.sums.items
-    c.take_all.new.work.touched.items (omega (arith, one)) c.requires.base c.in_ok-quotients.ensures
-    (c.if-clear_sums.ensures.same n (column_key n c.args.numbers.now) refl)
+    taken_all c.args.ring.now c.args.columns.now c.args.numbers.now c.args.key.now
+    (quotients_at c.args.products.now c.take_all.new.taken.items) c.take_all.new.work.sums.items c.take_all.new.work.touched.items (omega (arith, one)) c.requires.base c.in_ok-take_all.ensures
+    (c.clear_sums.ensures.same n (column_key n c.args.numbers.now) none)
