@@ -8,20 +8,16 @@ use module_vectors::{Frame, Key, NoMemory};
 use row_matrix::{KeyTable, kept_number, number_columns};
 use std::alloc::Global;
 
-/// For each number of a key its place among the products' leads, the greatest first, or a place past the end, and for each place the
-/// index of the product with this lead. That they are so is not proved: a wrong place could but leave something.
+/// For each number of a key its place among the products' leads, the greatest first, or a place past the end. That it is so is not
+/// proved: a wrong place could but leave something.
 pub struct Order {
     pub places: Vec<u32>,
-    pub turns: Vec<u32>,
 }
 
 // By hand, so that each drop of one is a call.
 impl Drop for Order {
     fn drop(self) {
-        let Order {
-            places: _,
-            turns: _,
-        } = self;
+        let Order { places: _ } = self;
     }
 }
 
@@ -78,8 +74,7 @@ fn product_leads(
     Ok(leads)
 }
 
-/// The places of the products' leads among these, the products' indices by these places, and for each other key a place past the
-/// end.
+/// The places of the products' leads among these, and for each other key a place past the end.
 pub fn order_of<F: Frame>(
     alloc: Global,
     frame: &F,
@@ -91,15 +86,12 @@ pub fn order_of<F: Frame>(
     let leads = product_leads(alloc, numbers, products)?;
     let numbering = number_columns(alloc, frame, leads.as_slice())?;
     let mut places = vec![in alloc; u32::MAX; numbers.len()]?;
-    let mut turns = vec![in alloc; u32::MAX; products.len()]?;
     for i in 0..products.len() {
-        let turn = kept_number(i)?;
-        let place = place_at(&numbering.places, turn);
+        let place = place_at(&numbering.places, kept_number(i)?);
         let number = products[i].number as usize;
-        if place < turns.len() && number < places.len() {
-            turns[place] = turn;
+        if place < products.len() && number < places.len() {
             places[number] = kept_number(place)?;
         }
     }
-    Ok(Order { places, turns })
+    Ok(Order { places })
 }
