@@ -3,9 +3,7 @@ use Rattle.std.specs.Prelude.{Contains}
 use Rattle.std.proofs.Common.{List, [], ap, append-nil, arith, drop, get_or, get_or-set_other, inl, inr, length, refl, set, subst, suc, sym, zero, ℕ}
 use Rattle.std.proofs.Common.{◌%◌, ◌*◌, ◌+◌, ◌++◌, ◌<◌, ◌∙◌, ◌∷◌, ◌≡◌, ◌≤◌, ◌⊎◌}
 use Rattle.std.proofs.lemmas.List.{drop_all, drop_more}
-use Rattle.std.proofs.lemmas.List.Sorted.{Contains-permutation}
 use Rattle.std.proofs.lemmas.Bool.{cases_eq}
-use Rattle.std.specs.List.Sorted.{IsPermutation}
 use Rattle.residues.proofs.Congruences.{IsCongruent_add, IsCongruent_mod, IsCongruent_multiply}
 use Rattle.residues.proofs.Congruences.{IsCongruent_of, IsCongruent_refl, IsCongruent_sym, IsCongruent_trans}
 use Rattle.residues.specs.Residues.{IsCongruent}
@@ -13,7 +11,7 @@ use Rattle.monomials.specs.Exponents.{unit}
 use Rattle.formal_sums.proofs.Sameness.{IsSame_append, IsSame_of, IsSame_refl, IsSame_sym, IsSame_trans}
 use Rattle.formal_sums.proofs.WeightedSums.{coefficient-append}
 use Rattle.formal_sums.specs.FormalSums.{FormalSum, IsSame, Key, coefficient, indicator, weighted_sum}
-use Rattle.constant_rows.specs.Rows.{AreRowSums, AreZeros, row_constants}
+use Rattle.constant_rows.specs.Rows.{AreZeros, row_constants}
 
 -- a coefficient that is 0
 pub nothing_put : {n : ℕ} (p : ℕ) (v : FormalSum n) (k : Key n) (r : ℕ) → r ≡ 0 → IsSame p v (v ++ (k, r) ∷ [])
@@ -77,7 +75,7 @@ module _ {n p : ℕ} (c r : ℕ) (sums : List ℕ) (is : r ≡ get_or sums c 0 %
 abbrev AreLeft : List ℕ → List ℕ → Type 0
 AreLeft touched sums = (i : ℕ) → (get_or sums i 0 ≡ 0) ⊎ Contains touched i
 
-set_zero : (sums : List ℕ) (c : ℕ) → get_or (set sums c 0) c 0 ≡ 0
+pub set_zero : (sums : List ℕ) (c : ℕ) → get_or (set sums c 0) c 0 ≡ 0
 set_zero [] c = refl
 set_zero (a ∷ sums) zero = refl
 set_zero (a ∷ sums) (suc c) = set_zero sums c
@@ -129,11 +127,3 @@ pub all_taken :
     → IsSame p done (row_constants n 0 start)
 all_taken {n} {p} start sums done z h =
     IsSame_sym (IsSame_trans h (IsSame_trans (IsSame_append (IsSame_refl p done) (zeros_same p 0 sums z)) (IsSame_of p _ _ (append-nil done))))
-
--- touched rows in another order
-pub sums_reordered : (sums old new : List ℕ) → IsPermutation old new → AreRowSums sums old → AreRowSums sums new
-sums_reordered sums old new e h = record { small = h.small; touched_or_zero = λ i. go i (h.touched_or_zero i) }
-  where
-    go : (i : ℕ) → (get_or sums i 0 ≡ 0) ⊎ Contains old i → (get_or sums i 0 ≡ 0) ⊎ Contains new i
-    go i (inl z) = inl z
-    go i (inr t) = inr (Contains-permutation old new i e t)

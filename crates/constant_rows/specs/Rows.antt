@@ -2,11 +2,6 @@
 use Rattle.std.specs.Prelude.{Contains, List, [], get_or, map, ℕ, ◌++◌, ◌+◌, ◌<◌, ◌∷◌, ◌^◌, ◌≡◌, ◌⊎◌}
 use Rattle.monomials.specs.Exponents.{unit}
 use Rattle.formal_sums.specs.FormalSums.{Each, FormalSum, IsSame, scale}
-use Rattle.term_lists.specs.Rings.{variables}
-use Rattle.term_lists.specs.Vectors.{sum_of}
-use Rattle.term_lists.specs.declared.key.Key.{Key as CodeKey}
-use Rattle.term_lists.specs.declared.ring.Ring.{Ring}
-use Rattle.constant_rows.specs.declared.constants.Constants.{Constants}
 
 -- the constants in the rows from i on, by their coefficients
 abbrev pub row_constants : (n : ℕ) → ℕ → List ℕ → FormalSum n
@@ -16,12 +11,6 @@ row_constants n i (a ∷ sums) = ((i, unit n), a) ∷ row_constants n (i + 1) su
 -- the constants that are listed, a row and a coefficient each
 abbrev pub entry_constants : (n : ℕ) → List (ℕ × ℕ) → FormalSum n
 entry_constants n entries = map (λ e. ((e.0, unit n), e.1)) entries
-
--- the vector is these constants, in rows below their width
-pub record AreConstantsOf (ring : Ring) (v : List (CodeKey × ℕ)) (constants : Constants) : Type 0 where
-  pub sum : sum_of (variables ring) v ≡ entry_constants (variables ring) constants.entries.items
-  pub below : Each (λ e. e.0 < constants.width) constants.entries.items
-  pub reduced : Each (λ e. e.1 < ring.modulus.value) constants.entries.items
 
 -- the new sums are the old ones and `factor` times the constants
 abbrev pub AddsConstants : ℕ → ℕ → List (ℕ × ℕ) → List ℕ → List ℕ → Type 0

@@ -1,43 +1,23 @@
-// The vector that sums by row stand for.
-ghost use Rattle.std.specs.Prelude.{◌≡◌, ◌<◌, ◌%◌, ◌++◌, ◌∷◌, [], IfOk, OnOk, get_or, set};
-ghost use Rattle.monomials.specs.Exponents.{exponents_of, unit};
-ghost use Rattle.term_lists.specs.Rings.{ring_comparison, variables};
-ghost use Rattle.term_lists.specs.Vectors.{AreTermsOver, IsMonomialOver, IsVectorOver, StandsFor, sum_of};
-ghost use Rattle.constant_rows.specs.Rows.{AreRowSums, AreZeros, row_constants};
+// The constants that sums by row stand for.
+ghost use Rattle.std.specs.Prelude.{◌≡◌, ◌<◌, ◌≤◌, ◌%◌, ℕ, IfOk, OnOk, get_or, set};
+ghost use Rattle.monomials.specs.Exponents.{unit};
+ghost use Rattle.formal_sums.specs.FormalSums.{Each, IsSame, coefficient};
+ghost use Rattle.constant_rows.specs.Rows.{AreRowSums, AreZeros, entry_constants, row_constants};
 
-use crate::RowSums;
-use module_vectors::{Key, NoMemory, Ring, Vect, lawful_setting};
-use monomial_orders::Mono;
+use crate::{Constants, RowSums};
+use module_vectors::NoMemory;
 use std::alloc::Global;
 use zp_field::Modulus;
 
-// Puts the constant behind the others, where it is not 0; `one` is the monomial 1.
-fn put_constant(
-    alloc: Global,
-    ring: &Ring,
-    one: &Mono,
-    row: u32,
-    residue: u32,
-    terms: &mut Vec<(Key, u32)>,
-) -> Result<(), NoMemory>
-    requires one { exponents_of (variables ring.now) one.now.exponents ≡ unit (variables ring.now) }
-    requires monomial { IsMonomialOver ring.now one.now }
-    requires residue { residue < ring.now.modulus.value }
-    requires terms { AreTermsOver ring.now terms.old.items }
-    ensures terms { OnOk result (AreTermsOver ring.now terms.new.items) }
-    ensures sum { let n = variables ring.now in
-        OnOk result (StandsFor ring.now terms.new.items (sum_of n terms.old.items ++ ((row, unit n), residue) ∷ [])) }
+// A width above this one, or this one, that is above the row.
+fn wider(width: usize, row: u32) -> usize
+    ensures kept { width ≤ result }
+    ensures above { row < result }
 {
-    let _ring = ring;
-    if residue == 0 {
-        return Ok(());
+    if (row as usize) < width {
+        return width;
     }
-    let key = Key {
-        position: u64::from(row),
-        monomial: one.try_copy(alloc)?,
-    };
-    terms.push((key, residue))?;
-    Ok(())
+    row as usize + 1
 }
 
 // The residue of the row's sum, which is 0 then.
@@ -57,38 +37,48 @@ fn take_residue(modulus: &Modulus, row: u32, sums: &mut Vec<u64>) -> u32
 }
 
 // The constants of the touched rows, whose sums are 0 then.
-fn taken_terms(
+fn taken_constants(
     alloc: Global,
-    ring: &Ring,
+    modulus: &Modulus,
     touched: &[u32],
     sums: &mut Vec<u64>,
-) -> Result<Vec<(Key, u32)>, NoMemory>
+) -> Result<Constants, NoMemory>
     requires { AreRowSums sums.old.items touched.now }
-    ensures terms { IfOk result (λ terms. AreTermsOver ring.now terms.items) }
-    ensures sum { IfOk result (λ terms. StandsFor ring.now terms.items (row_constants (variables ring.now) 0 sums.old.items)) }
+    ensures sum { (n : ℕ) → IfOk result (λ c. IsSame modulus.now.value (entry_constants n c.entries.items) (row_constants n 0 sums.old.items)) }
+    ensures below { IfOk result (λ c. Each (λ e. e.0 < c.width) c.entries.items) }
+    ensures reduced { IfOk result (λ c. Each (λ e. (0 < e.1) × (e.1 < modulus.now.value)) c.entries.items) }
+    ensures coefficients { (n : ℕ) → IfOk result (λ c. Each (λ e. coefficient (entry_constants n c.entries.items) (e.0, unit n) ≡ e.1) c.entries.items) }
     ensures zeros { OnOk result (AreZeros sums.new.items) }
 {
-    lawful_setting(ring);
-    let one = Mono::unit(alloc, ring.vars.len())?;
-    let mut terms = Vec::with_capacity(alloc, touched.len())?;
+    modulus.domain();
+    let mut entries = Vec::with_capacity(alloc, touched.len())?;
+    let mut width = 0;
     for row in touched {
-        let residue = take_residue(&ring.modulus, *row, sums);
-        put_constant(alloc, ring, &one, *row, residue, &mut terms)?;
+        let residue = take_residue(modulus, *row, sums);
+        if residue == 0 {
+            continue;
+        }
+        entries.push((*row, residue))?;
+        width = wider(width, *row);
     }
-    Ok(terms)
+    Ok(Constants { entries, width })
 }
 
-/// The vector that the sums stand for, which are all 0 then. `NoMemory` where there is none.
-pub fn take_vector(alloc: Global, ring: &Ring, rows: &mut RowSums) -> Result<Vect, NoMemory>
-    requires { AreRowSums rows.old.sums.items rows.old.touched.items }
-    ensures vector { IfOk result (IsVectorOver ring.now (ring_comparison ring.now)) }
-    ensures sum { IfOk result (λ v. StandsFor ring.now v (row_constants (variables ring.now) 0 rows.old.sums.items)) }
+/// The constants that the sums stand for, which are all 0 then: a row and a residue each, no row twice, no residue 0. `NoMemory` where
+/// there is none.
+pub fn take_constants(
+    alloc: Global,
+    modulus: &Modulus,
+    rows: &mut RowSums,
+) -> Result<Constants, NoMemory>
+    requires sums { AreRowSums rows.old.sums.items rows.old.touched.items }
+    ensures sum { (n : ℕ) → IfOk result (λ c. IsSame modulus.now.value (entry_constants n c.entries.items) (row_constants n 0 rows.old.sums.items)) }
+    ensures below { IfOk result (λ c. Each (λ e. e.0 < c.width) c.entries.items) }
+    ensures reduced { IfOk result (λ c. Each (λ e. (0 < e.1) × (e.1 < modulus.now.value)) c.entries.items) }
+    ensures coefficients { (n : ℕ) → IfOk result (λ c. Each (λ e. coefficient (entry_constants n c.entries.items) (e.0, unit n) ≡ e.1) c.entries.items) }
     ensures zeros { OnOk result (AreZeros rows.new.sums.items) }
 {
-    lawful_setting(ring);
-    // The first row is the greatest, so the terms are in order then.
-    rows.touched.sort_unstable();
-    let terms = taken_terms(alloc, ring, &rows.touched, &mut rows.sums)?;
+    let constants = taken_constants(alloc, modulus, &rows.touched, &mut rows.sums)?;
     rows.touched.clear();
-    Vect::from_terms(alloc, ring, terms)
+    Ok(constants)
 }
