@@ -17,15 +17,15 @@ use Rattle.formal_sums.specs.FormalSums.{Each, FormalSum, IsSame, indicator, pro
 use Rattle.minimal_laws.proofs.Rows.{linear_component}
 use Rattle.minimal_laws.specs.Cancellation.{cleared, component}
 use Rattle.term_lists.proofs.Scaling.{Each_at}
-use Rattle.term_lists.specs.Rings.{ring_comparison, variables}
+use Rattle.term_lists.specs.Rings.{variables}
 use Rattle.term_lists.specs.Stops.{ScaledStops}
-use Rattle.term_lists.specs.Vectors.{AreTermsOver, IsMonomialOver, IsVectorOver, StandsFor, sum_of}
+use Rattle.term_lists.specs.Vectors.{AreTermsOver, IsMonomialOver, StandsFor, sum_of}
 use Rattle.term_lists.specs.declared.key.Key.{Key as CodeKey}
 use Rattle.term_lists.specs.declared.ring.Ring.{Ring}
 use Rattle.term_lists.specs.declared.stop.VectStop.{VectStop}
 use Rattle.term_lists.specs.declared.stop.VectStop.TheVariants.{Degree, Memory}
 use Rattle.column_passes.specs.Clearing.{ClearingStops, IsMonomialAt, MakeEntry, multiple_of}
-use Rattle.column_passes.proofs.Lists.{all_append, all_map, each_in}
+use Rattle.column_passes.proofs.Lists.{all_append, each_in}
 
 abbrev Terms : Type 0
 Terms = List (CodeKey × ℕ)
@@ -290,6 +290,3 @@ on_ok (Err e) P Q f h = tt
 pub if_ok : {X E : Type 0} (r : Result X E) (P Q : X → Type 0) → ((x : X) → P x → Q x) → IfOk r P → IfOk r Q
 if_ok (Ok x) P Q f h = f x h
 if_ok (Err e) P Q f h = tt
-
-pub vector_terms : (ring : Ring) (v : Terms) → IsVectorOver ring (ring_comparison ring) v → AreTermsOver ring v
-vector_terms ring v h = all_map _ _ v (λ t e. (e.weighed, e.reduced)) h.each

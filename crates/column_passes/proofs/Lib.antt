@@ -2,17 +2,14 @@ pub mod Apart
 pub mod Applying
 pub mod ByDegree
 pub mod Canonical
-pub mod ChosenSteps
 pub mod Clearings
 pub mod Columns
-pub mod ConstantTerms
 pub mod Lists
 pub mod Lowering
 pub mod Numbering
 pub mod Passes
 pub mod Places
 pub mod Reordering
-pub mod RowClearing
 pub mod Turning
 pub mod Units
 pub mod Zeros

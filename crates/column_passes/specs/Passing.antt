@@ -10,8 +10,6 @@ use Rattle.term_lists.specs.Rings.{ring_comparison, variables}
 use Rattle.term_lists.specs.Vectors.{AreVectorsOver, IsVectorOver, sum_of, sums_of}
 use Rattle.term_lists.specs.declared.key.Key.{Key as CodeKey}
 use Rattle.term_lists.specs.declared.ring.Ring.{Ring}
-use Rattle.constant_rows.specs.Rows.{AreConstantsOf}
-use Rattle.constant_rows.specs.declared.constants.Constants.{Constants}
 use Rattle.column_passes.specs.Constants.{HasNoConstants, IsLeastUnit}
 use Rattle.column_passes.specs.Placing.{ArePlacesAfter, place_after, place_told, without_all}
 use Rattle.column_passes.specs.declared.one_pass.Met.{Met}
@@ -87,12 +85,6 @@ pub record LeaveNumbered (numbers : List ℕ) (leaving : Leaving) : Type 0 where
 abbrev pub IsStepOver : Ring → Step → Type 0
 IsStepOver ring s = IsVectorOver ring (ring_comparison ring) s.column × (s.inverse < ring.modulus.value)
 
--- these constants are the columns of the first steps
-abbrev pub AreStepConstants : Ring → List Step → List Constants → Type 0
-AreStepConstants ring steps [] = ⊤
-AreStepConstants ring [] (c ∷ constants) = ⊥
-AreStepConstants ring (s ∷ steps) (c ∷ constants) = AreConstantsOf ring s.column c × AreStepConstants ring steps constants
-
 -- no step has the vector's first constant in its row
 abbrev pub IsFreeOfSteps : List (CodeKey × ℕ) → List Step → Type 0
 IsFreeOfSteps v steps = (a : ℕ × ℕ) → IsLeastUnit v (Some a) → Each (λ s. s.row ≡ a.0 → ⊥) steps
@@ -154,13 +146,5 @@ pub record IsPassed (ring : Ring) (columns : List (List (CodeKey × ℕ))) (pass
   pub same : let n = variables ring in AreSameColumns ring.modulus.value (left_by_all ring pivots (sums_of n columns)) (sums_of n passed.columns)
   pub vectors : AreVectorsOver ring (ring_comparison ring) passed.columns
   pub none : HasNoConstants ring.modulus.value (sums_of (variables ring) passed.columns)
-  pub rows : ArePlacesAfter (map (λ s. s.row) pivots) passed.rows
-  pub indices : ArePlacesAfter (map (λ s. s.index) pivots) passed.indices
-
--- the steps by which the constants of these columns leave, each time the first one, with their rows and columns
-pub record IsChosen (ring : Ring) (columns : List (List (CodeKey × ℕ))) (passed : Passed) : Type 0 where
-  pub pivots : List (Pivot (variables ring))
-  pub firsts : AreFirstSteps ring (sums_of (variables ring) columns) pivots
-  pub none : HasNoConstants ring.modulus.value (left_by_all ring pivots (sums_of (variables ring) columns))
   pub rows : ArePlacesAfter (map (λ s. s.row) pivots) passed.rows
   pub indices : ArePlacesAfter (map (λ s. s.index) pivots) passed.indices

@@ -3,7 +3,7 @@ ghost use Rattle.std.specs.Prelude.{◌≡◌, ◌<◌, [], List, ℕ, IfOk, OnO
 ghost use Rattle.formal_sums.specs.FormalSums.{Each};
 ghost use Rattle.term_lists.specs.Rings.{ring_comparison, variables};
 ghost use Rattle.term_lists.specs.Vectors.{AreVectorsOver, IsVectorOver, sums_of};
-ghost use Rattle.column_passes.specs.Passing.{AreFinished, AreGradedColumns, AreNumbered, AreStepConstants, HaveNoOthers, IsFreeOfSteps, IsMetOver, IsPassed};
+ghost use Rattle.column_passes.specs.Passing.{AreFinished, AreGradedColumns, AreNumbered, HaveNoOthers, IsFreeOfSteps, IsMetOver, IsPassed};
 ghost use Rattle.column_passes.specs.Passing.{IsColumnSorted, IsStepOver, LeaveNumbered, indices_in_turn};
 ghost use Rattle.column_passes.specs.Placing.{ArePlacesAfter};
 
@@ -11,7 +11,6 @@ use crate::constants::least_unit;
 use crate::placing::{Leaving, placed_vector, push_place};
 use crate::sorting::by_degree;
 use crate::steps::{NONE, Step, StepTable, clear_since, push_step};
-use constant_rows::no_sums;
 use module_vectors::{NoMemory, Ring, Vect, VectList, VectStop, lawful_setting};
 use std::alloc::Global;
 use std::collections::VecDeque;
@@ -71,11 +70,9 @@ fn sort_column(
     requires numbered { AreNumbered table.old.numbers.items 0 table.old.steps.items }
     requires others { HaveNoOthers table.old.numbers.items table.old.steps.items }
     requires free { IsFreeOfSteps column table.old.steps.items }
-    requires constants { AreStepConstants ring.now table.old.steps.items table.old.constants.items }
     ensures sorted { OnOk result (IsColumnSorted ring.now index column table.old.steps.items table.new.steps.items met.old.items met.new.items) }
     ensures numbered { OnOk result (AreNumbered table.new.numbers.items 0 table.new.steps.items) }
     ensures others { OnOk result (HaveNoOthers table.new.numbers.items table.new.steps.items) }
-    ensures constants { OnOk result (AreStepConstants ring.now table.new.steps.items table.new.constants.items) }
 {
     lawful_setting(ring);
     match least_unit(&column) {
@@ -101,7 +98,7 @@ fn sort_column(
                 inverse,
                 column,
             };
-            push_step(alloc, ring, table, step)?;
+            push_step(table, step)?;
         }
     }
     Ok(())
@@ -123,8 +120,8 @@ fn not_met(alloc: Global, count: usize) -> Result<Vec<Met>, NoMemory>
     Ok(met)
 }
 
-// The rows that have the number of a step leave.
-fn leaving_rows(alloc: Global, numbers: &[u64]) -> Result<Leaving, NoMemory>
+/// The rows that have the number of a step leave. `NoMemory` where there is none.
+pub fn leaving_rows(alloc: Global, numbers: &[u64]) -> Result<Leaving, NoMemory>
     ensures { IfOk result (LeaveNumbered numbers.now) }
 {
     let mut leaving = Leaving {
@@ -162,18 +159,16 @@ fn finish(
     requires leaving { (rows : List ℕ) × ArePlacesAfter rows leaving.now }
     requires steps { Each (IsStepOver ring.now) table.now.steps.items }
     requires numbered { AreNumbered table.now.numbers.items 0 table.now.steps.items }
-    requires constants { AreStepConstants ring.now table.now.steps.items table.now.constants.items }
     requires met { Each (IsMetOver ring.now table.now.steps.items) met.items }
     ensures { (rows : List ℕ) → ArePlacesAfter rows leaving.now
         → IfOk result (AreFinished ring.now table.now.steps.items rows met.items) }
 {
     lawful_setting(ring);
     let mut columns = Vec::with_capacity(alloc, met.len())?;
-    let mut work = no_sums(alloc);
     let mut rest = VecDeque::from_vec(met);
     while let Some(next) = rest.pop_front() {
         match next.choice {
-            None => match clear_since(alloc, ring, table, next.since, next.column, &mut work) {
+            None => match clear_since(alloc, ring, table, next.since, next.column) {
                 Ok(column) => columns.push(placed_vector(alloc, ring, leaving, column)?)?,
                 Err(stop) => return Err(stop),
             },
@@ -192,7 +187,6 @@ fn finish_pass(
 ) -> Result<Passed, VectStop>
     requires steps { Each (IsStepOver ring.now) table.now.steps.items }
     requires numbered { AreNumbered table.now.numbers.items 0 table.now.steps.items }
-    requires constants { AreStepConstants ring.now table.now.steps.items table.now.constants.items }
     requires met { Each (IsMetOver ring.now table.now.steps.items) met.items }
     ensures rows { IfOk result (λ p. LeaveNumbered table.now.numbers.items p.rows) }
     ensures indices { IfOk result (λ p. ArePlacesAfter (indices_in_turn 0 met.items) p.indices) }
@@ -240,15 +234,13 @@ pub fn pass(
     let mut table = StepTable {
         steps: Vec::new(alloc),
         numbers: Vec::new(alloc),
-        constants: Vec::new(alloc),
     };
-    let mut work = no_sums(alloc);
     let mut met = not_met(alloc, columns.len())?;
     let order = by_degree(alloc, degrees, columns.len())?;
     for k in 0..order.len() {
         let number = order[k];
         let copy = column_copy(alloc, columns, number)?;
-        match clear_since(alloc, ring, &table, 0, copy, &mut work) {
+        match clear_since(alloc, ring, &table, 0, copy) {
             Ok(after) => sort_column(alloc, ring, number, after, &mut table, &mut met)?,
             Err(stop) => return Err(stop),
         }

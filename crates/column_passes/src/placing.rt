@@ -35,8 +35,8 @@ pub(crate) fn lower_position(row: u64, position: u64) -> u64
     position.saturating_sub(1)
 }
 
-/// The next number behind the table leaves, or has its place.
-pub(crate) fn push_place(leaving: &mut Leaving, leaves: bool) -> Result<(), NoMemory>
+/// The next number behind the table leaves, or has its place. `NoMemory` where there is none.
+pub fn push_place(leaving: &mut Leaving, leaves: bool) -> Result<(), NoMemory>
     requires { leaving.old.count ≤ length leaving.old.places.items }
     ensures count { OnOk result (leaving.new.count ≤ length leaving.new.places.items) }
     ensures put { OnOk result (IsPlacePut leaves leaving.old leaving.new) }
@@ -76,8 +76,8 @@ pub fn none_leaving(alloc: Global) -> Leaving
     }
 }
 
-// The place that is left to the row, or none where it leaves.
-fn place_of(leaving: &Leaving, row: u64) -> Option<u64>
+/// The place that is left to the row, or none where it leaves.
+pub fn place_of(leaving: &Leaving, row: u64) -> Option<u64>
     ensures { result ≡ place_told leaving.now row }
 {
     if row < leaving.places.len() as u64 {

@@ -27,7 +27,6 @@ loop-next-preserved-in_ok-push-in-Ok c =
       vectors = vectors_pushed ring c.loop-next.columns.items c.push.new.self.items c.in_ok-placed_vector-in-Ok.field-0 c.loop-next.invariant.vectors
           c.in_ok-placed_vector-in-Ok.ensures.vector c.in_ok-push-in-Ok.ensures.items;
       left = left.1;
-      zeros = c.in-Ok.ensures.zeros;
     }
 
 pub clear_since-requires-clause-steps : goal.clear_since-requires-clause-steps
@@ -35,9 +34,6 @@ clear_since-requires-clause-steps c = c.requires.steps
 
 pub clear_since-requires-clause-numbered : goal.clear_since-requires-clause-numbered
 clear_since-requires-clause-numbered c = c.requires.numbered
-
-pub clear_since-requires-clause-constants : goal.clear_since-requires-clause-constants
-clear_since-requires-clause-constants c = c.requires.constants
 
 pub placed_vector-requires-clause-leaving : goal.placed_vector-requires-clause-leaving
 placed_vector-requires-clause-leaving c = c.requires.leaving

@@ -4,7 +4,6 @@ use Rattle.formal_sums.specs.FormalSums.{Each}
 use Rattle.minimal_laws.specs.Cancellation.{AreSameColumns}
 use Rattle.term_lists.specs.Rings.{ring_comparison, variables}
 use Rattle.term_lists.specs.Vectors.{AreVectorsOver, sums_of}
-use Rattle.constant_rows.specs.Rows.{AreZeros}
 use Rattle.column_passes.specs.Passing.{IsMetOver, finished_all}
 use Rattle.column_passes.specs.Placing.{ArePlacesAfter}
 use Rattle.column_passes.proofs.one_pass.finish.Given as goal
@@ -17,7 +16,6 @@ invariant-loop-next l = record {
       (sums_of (variables l.ring) l.columns.items ++ finished_all l.ring l.table.steps.items rows l.rest.items);
   vectors : AreVectorsOver l.ring (ring_comparison l.ring) l.columns.items;
   left : Each (IsMetOver l.ring l.table.steps.items) l.rest.items;
-  zeros : AreZeros l.work.sums.items;
 }
 
 abbrev pub decreases-loop-next : goal.decreases-loop-next

@@ -12,9 +12,6 @@ finish-requires-clause-steps c = c.requires.steps
 pub finish-requires-clause-numbered : goal.finish-requires-clause-numbered
 finish-requires-clause-numbered c = c.requires.numbered
 
-pub finish-requires-clause-constants : goal.finish-requires-clause-constants
-finish-requires-clause-constants c = c.requires.constants
-
 pub finish-requires-clause-met : goal.finish-requires-clause-met
 finish-requires-clause-met c = c.requires.met
 

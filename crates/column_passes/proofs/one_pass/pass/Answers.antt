@@ -5,7 +5,7 @@ use Rattle.term_lists.proofs.Scaling.{Each_at}
 use Rattle.term_lists.specs.Rings.{ring_comparison, variables}
 use Rattle.term_lists.specs.Vectors.{IsVectorOver, StandsFor, sum_of}
 use Rattle.vector_division.proofs.Members.{sums_at}
-use Rattle.column_passes.specs.Passing.{AreFinished, AreNumbered, AreStepConstants, IsPassed, LeaveNumbered, cleared_all, indices_in_turn}
+use Rattle.column_passes.specs.Passing.{AreFinished, AreNumbered, IsPassed, LeaveNumbered, cleared_all, indices_in_turn}
 use Rattle.column_passes.specs.Placing.{ArePlacesAfter}
 use Rattle.column_passes.proofs.ByDegree.{order_is}
 use Rattle.column_passes.proofs.Passes.{AreMet, free_here, meet_more, met_start, number_inside, others_first, pass_all}
@@ -17,8 +17,6 @@ loop-k-init c = record {
       c.in_ok-met.ensures.count c.in_ok-met.ensures.none;
   numbered = subst (AreNumbered c.new-2.result.items 0) (sym c.new.ensures.items) tt;
   others = λ q none. ap (λ z. get_or z q 18446744073709551615) c.new-2.ensures.items ∙ get_or_past [] q 18446744073709551615 (omega arith);
-  constants = subst (AreStepConstants c.args.ring.now c.new.result.items) (sym c.new-3.ensures.items) tt;
-  zeros = c.no_sums-work.ensures;
 }
 
 pub column_copy-requires : goal.column_copy-requires
@@ -78,8 +76,6 @@ loop-k-preserved c =
           c.sort_column.new.table.steps.items c.sort_column.new.met.items c.in_ok-sort_column-in-Ok.ensures.sorted;
       numbered = c.in_ok-sort_column-in-Ok.ensures.numbered;
       others = c.in_ok-sort_column-in-Ok.ensures.others;
-      constants = c.in_ok-sort_column-in-Ok.ensures.constants;
-      zeros = c.in-Ok.ensures.zeros;
     }
 
 pub finish_pass-requires-clause-steps : goal.finish_pass-requires-clause-steps
@@ -87,9 +83,6 @@ finish_pass-requires-clause-steps c = c.loop-k.invariant.met.steps_over
 
 pub finish_pass-requires-clause-numbered : goal.finish_pass-requires-clause-numbered
 finish_pass-requires-clause-numbered c = c.loop-k.invariant.numbered
-
-pub finish_pass-requires-clause-constants : goal.finish_pass-requires-clause-constants
-finish_pass-requires-clause-constants c = c.loop-k.invariant.constants
 
 pub finish_pass-requires-clause-met : goal.finish_pass-requires-clause-met
 finish_pass-requires-clause-met c = c.loop-k.invariant.met.over

@@ -1,5 +1,4 @@
-use Rattle.constant_rows.specs.Rows.{AreZeros}
-use Rattle.column_passes.specs.Passing.{AreNumbered, AreStepConstants, HaveNoOthers}
+use Rattle.column_passes.specs.Passing.{AreNumbered, HaveNoOthers}
 use Rattle.column_passes.proofs.Passes.{AreMet}
 use Rattle.column_passes.proofs.one_pass.pass.Given as goal
 
@@ -8,6 +7,4 @@ invariant-loop-k l = record {
   met : AreMet l.ring l.columns l.order.items l.k l.table.steps.items l.met.items;
   numbered : AreNumbered l.table.numbers.items 0 l.table.steps.items;
   others : HaveNoOthers l.table.numbers.items l.table.steps.items;
-  constants : AreStepConstants l.ring l.table.steps.items l.table.constants.items;
-  zeros : AreZeros l.work.sums.items;
 }

@@ -3,7 +3,7 @@ use Rattle.formal_sums.specs.FormalSums.{IsSame}
 use Rattle.term_lists.specs.Rings.{ring_comparison, variables}
 use Rattle.term_lists.specs.Vectors.{IsVectorOver, sum_of}
 use Rattle.column_passes.specs.Passing.{cleared_all}
-use Rattle.column_passes.proofs.steps.clear_by_vectors.Given as goal
+use Rattle.column_passes.proofs.steps.clear_since.Given as goal
 
 abbrev pub invariant-loop-alloc : goal.invariant-loop-alloc
 invariant-loop-alloc l = record {
