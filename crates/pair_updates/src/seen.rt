@@ -6,7 +6,7 @@ ghost use Rattle.pair_updates.specs.Seen.{AreSeen, IsSeen};
 use crate::rows::next_below;
 
 /// So many words are remembered.
-pub(crate) const SLOTS: usize = 256;
+pub(crate) const SLOTS: usize = 128;
 
 /// A word, and an index before which a list has no word below it.
 #[derive(Clone, Copy)]
@@ -25,9 +25,9 @@ pub(crate) fn no_words() -> [SeenWord; SLOTS]
 // The slot of a word (Knuth, *The Art of Computer Programming*, volume 3, section 6.4: multiplicative hashing).
 #[inline(always)]
 fn slot_of(word: u64) -> usize
-    ensures { result < 256 }
+    ensures { result < 128 }
 {
-    (word.wrapping_mul(0x9e37_79b9_7f4a_7c15) >> 56) as usize
+    (word.wrapping_mul(0x9e37_79b9_7f4a_7c15) >> 57) as usize
 }
 
 // From which index on the word is still to be looked for, where this stands in its slot.

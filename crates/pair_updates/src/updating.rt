@@ -256,7 +256,8 @@ pub fn updated(
 {
     let mut kept = copies(alloc, queue)?;
     let mut queued = Vec::new(alloc);
-    // Most pairs of a new member are dropped, and a list that grows on the way is copied several times.
+    // Most pairs of a new member are dropped, and a list that grows on the way is copied several times. By powers of two the room that
+    // one update gives back suits the next.
     let many = (leads.len() - first).saturating_mul(leads.len());
     let mut dropped = Vec::with_capacity(alloc, many.min(ROOM).next_power_of_two())?;
     for h in first..leads.len() {
