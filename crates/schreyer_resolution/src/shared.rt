@@ -136,6 +136,10 @@ fn made_columns<F: Frame>(
     requires reduced { AreReduced ring.now.modulus.value columns.now }
     ensures { IfOk result (λ made. IfSome made (λ next. AreColumnsMade ring.now columns.now induced.now keys.now (length keys.now) next.items)) }
 {
+    // No column stands above those of the last map, which are many.
+    if keys.is_empty() {
+        return Ok(Some(Vec::new(alloc)));
+    }
     let hashes = column_hashes(alloc, columns)?;
     let mut numbers = KeyTable::new(alloc)?;
     let mut starts = start_rows(alloc, ring, columns, &hashes, keys, &mut numbers)?;
