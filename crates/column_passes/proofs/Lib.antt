@@ -2,6 +2,7 @@ pub mod Apart
 pub mod Applying
 pub mod ByDegree
 pub mod Canonical
+pub mod Choosing
 pub mod Clearings
 pub mod Columns
 pub mod Lists
