@@ -16,7 +16,7 @@ use Rattle.minimal_laws.proofs.OneCancellation.{one_cancellation, same_maps_sym,
 use Rattle.minimal_laws.proofs.Presenting.{presents_same}
 use Rattle.minimal_laws.proofs.SameMaps.{same_exact, same_first, same_graded, same_member, turned}
 use Rattle.minimal_laws.proofs.Searching.{cancellation_exists, same_maps_itself}
-use Rattle.minimal_laws.specs.Cancellation.{AreSameMaps, IsCancelled, done, keep, trimmed}
+use Rattle.minimal_laws.specs.Cancellation.{AreSameColumns, AreSameMaps, IsCancelled, done, keep, trimmed}
 use Rattle.minimal_laws.specs.Gradings.{AreExact, AreGraded, AreHomogeneous, GradedMap, GradedMaps, IsHomogeneous, first_columns, graded_by_leads}
 use Rattle.minimal_laws.specs.Minimal.{HasConstant, IsMinimal, Presents, difference_modulo}
 use Rattle.term_lists.specs.Rings.{ring_comparison, setting, variables}
@@ -29,7 +29,7 @@ use Rattle.resolution_maps.specs.declared.maps.Map.{Map}
 use Rattle.resolution_maps.specs.declared.maps.Resolution.{Resolution}
 use Rattle.column_passes.proofs.Lists.{map_same}
 use Rattle.column_passes.specs.Constants.{HasNoConstants}
-use Rattle.minimal_betti.specs.Carried.{AreCarried, AreCarriedBy, AreOrdered, LeadsTo, graded_map, graded_maps}
+use Rattle.minimal_betti.specs.Carried.{AreCarried, AreOrdered, LeadsTo, graded_map, graded_maps}
 use Rattle.minimal_betti.specs.Complementing.{ComesTo}
 use Rattle.minimal_betti.specs.Graded.{AreMapsOver, IsGradedResolution, graded_of}
 use Rattle.minimal_betti.specs.Minimising.{IsCancellationOf}
@@ -136,64 +136,38 @@ kept_less n maps k m lt le is none =
 
 -- ---- the start
 module _ (ring : Ring) where
-  module _ (f : FormalSum (variables ring) → FormalSum (variables ring)) where
-    -- the map with the images of its columns
-    abbrev pub image_map : GradedMap (variables ring) → GradedMap (variables ring)
-    image_map M = record { columns = map f M.columns; degrees = M.degrees }
-
-    pub images_same :
-        (rows : List ℕ) (maps : List Map) (start : List Carried) → AreJoined ring rows maps → AreCarriedBy ring f maps start
-        → AreSameMaps ring.modulus.value
-        (map image_map (graded_by_leads ring.weights rows (maps_of (variables ring) (map (λ (m : Map). m.columns) maps))))
-        (map (graded_map (variables ring)) start)
-    images_same rows [] [] j c = tt
-    images_same rows [] (s ∷ start) j c = elim c [ ]
-    images_same rows (m ∷ maps) [] j c = elim c [ ]
-    images_same rows (m ∷ maps) (s ∷ start) j c = (
-      sym (c.1 ∙ ap (λ (z : List ℕ). degrees_of ring z m.columns) j.0.degrees),
-      c.0.same,
-      images_same (degrees_of ring rows m.columns) maps start j.1 c.2,
-    )
-
-    images_ordered : (maps : List Map) (start : List Carried) → AreCarriedBy ring f maps start → AreOrdered ring start
-    images_ordered [] [] c = tt
-    images_ordered [] (s ∷ start) c = elim c [ ]
-    images_ordered (m ∷ maps) [] c = elim c [ ]
-    images_ordered (m ∷ maps) (s ∷ start) c = (c.0.vectors, images_ordered maps start c.2)
-
-    pub images_underway :
-        0 < ring.modulus.value → (r : Resolution) (start : List Carried) (rows : List ℕ) → IsGradedResolution ring r
-        → AreCarriedBy ring f r.maps.items start
-        → AreGraded ring.weights ring.modulus.value r.positions.items (map image_map (graded_of ring r).maps) → rows ≡ r.positions.items
-        → IsCancellationUnderway ring rows [] start
-    images_underway pos r start rows given c graded e = record {
-      ordered = images_ordered r.maps.items start c;
-      graded = subst (λ z. AreGraded ring.weights ring.modulus.value z (map (graded_map (variables ring)) start)) (sym e)
-          (same_graded ring.modulus.value pos ring.weights r.positions.items (map image_map (graded_of ring r).maps)
-          (map (graded_map (variables ring)) start) (images_same r.positions.items r.maps.items start given.joined c) graded);
-      none = tt;
-    }
-
-  own_maps : (maps : List (GradedMap (variables ring))) → map (image_map (λ v. v)) maps ≡ maps
-  own_maps [] = refl
-  own_maps (M ∷ maps) =
-      ap₂ (λ (F : List (FormalSum (variables ring))) (Ms : List (GradedMap (variables ring))). record { columns = F; degrees = M.degrees } ∷ Ms)
-      (map_same M.columns) (own_maps maps)
-
+  -- the maps with their columns in the ring's own order
   pub start_same :
       (rows : List ℕ) (maps : List Map) (start : List Carried) → AreJoined ring rows maps → AreCarried ring maps start
       → AreSameMaps ring.modulus.value (graded_by_leads ring.weights rows (maps_of (variables ring) (map (λ (m : Map). m.columns) maps)))
       (map (graded_map (variables ring)) start)
-  start_same rows maps start j c =
-      subst (λ Ms. AreSameMaps ring.modulus.value Ms (map (graded_map (variables ring)) start)) (own_maps _) (images_same (λ v. v) rows maps start j c)
+  start_same rows [] [] j c = tt
+  start_same rows [] (s ∷ start) j c = elim c [ ]
+  start_same rows (m ∷ maps) [] j c = elim c [ ]
+  start_same rows (m ∷ maps) (s ∷ start) j c = (
+    sym (c.1 ∙ ap (λ (z : List ℕ). degrees_of ring z m.columns) j.0.degrees),
+    subst (λ (F : List (FormalSum (variables ring))). AreSameColumns ring.modulus.value F (sums_of (variables ring) s.columns))
+        (map_same (sums_of (variables ring) m.columns)) c.0.same,
+    start_same (degrees_of ring rows m.columns) maps start j.1 c.2,
+  )
+
+  start_ordered : (maps : List Map) (start : List Carried) → AreCarried ring maps start → AreOrdered ring start
+  start_ordered [] [] c = tt
+  start_ordered [] (s ∷ start) c = elim c [ ]
+  start_ordered (m ∷ maps) [] c = elim c [ ]
+  start_ordered (m ∷ maps) (s ∷ start) c = (c.0.vectors, start_ordered maps start c.2)
 
   pub start_underway :
       0 < ring.modulus.value → (r : Resolution) (start : List Carried) (rows : List ℕ) → IsGradedResolution ring r → AreCarried ring r.maps.items start
       → rows ≡ r.positions.items
       → IsCancellationUnderway ring rows [] start
-  start_underway pos r start rows given c e =
-      images_underway (λ v. v) pos r start rows given c
-      (subst (AreGraded ring.weights ring.modulus.value r.positions.items) (sym (own_maps (graded_of ring r).maps)) given.graded) e
+  start_underway pos r start rows given c e = record {
+    ordered = start_ordered r.maps.items start c;
+    graded = subst (λ z. AreGraded ring.weights ring.modulus.value z (map (graded_map (variables ring)) start)) (sym e)
+        (same_graded ring.modulus.value pos ring.weights r.positions.items (graded_of ring r).maps (map (graded_map (variables ring)) start)
+        (start_same r.positions.items r.maps.items start given.joined c) given.graded);
+    none = tt;
+  }
 
   pub none_at_all :
       (ms : List Carried) → Each (λ m. HasNoConstants ring.modulus.value (sums_of (variables ring) m.columns)) ms

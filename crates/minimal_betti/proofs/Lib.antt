@@ -1,5 +1,5 @@
 pub mod Complements
-pub mod ConstantCounts
+pub mod CountedMaps
 pub mod Counts
 pub mod Ending
 pub mod Entries
@@ -12,4 +12,5 @@ pub mod Reaching
 pub mod Reading
 pub mod SplitColumns
 pub mod Splittings
+pub mod Stepped
 pub mod Stepping

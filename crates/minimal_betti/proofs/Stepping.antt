@@ -131,7 +131,7 @@ module _ {n : ℕ} (p : ℕ) where
   columns_in [] M tail = refl
   columns_in (D ∷ done) M tail = columns_in done M tail
 
-  pub none_fewer : (r : ℕ) (M : GradedMap n) → HasNoConstants p M.columns → HasNoConstants p (remove_at r M.columns)
+  none_fewer : (r : ℕ) (M : GradedMap n) → HasNoConstants p M.columns → HasNoConstants p (remove_at r M.columns)
   none_fewer r M h c q k = h (skip r c) q (subst (λ v. IsConstantAt p v q) (get_or-remove_at r M.columns c []) k)
 
   none_last : (r : ℕ) (M : GradedMap n) (done : List (GradedMap n)) → HasNoConstants p M.columns → Each (λ D. HasNoConstants p D.columns) done

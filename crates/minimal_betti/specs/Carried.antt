@@ -1,6 +1,6 @@
 -- Maps while constants leave, with the degrees of their columns, since a column can become zero
 use Rattle.std.specs.Prelude.{List, [], map, ℕ, ⊤, ◌∷◌, ◌≡◌}
-use Rattle.formal_sums.specs.FormalSums.{Each, FormalSum}
+use Rattle.formal_sums.specs.FormalSums.{Each}
 use Rattle.minimal_laws.specs.Cancellation.{IsCancelled}
 use Rattle.minimal_laws.specs.Gradings.{GradedMap, GradedMaps}
 use Rattle.term_lists.specs.Rings.{ring_comparison, variables}
@@ -30,18 +30,14 @@ pub record LeadsTo {n : ℕ} (p : ℕ) (C E : GradedMaps n) : Type 0 where
   pub cancelled : (D : GradedMaps n) → IsCancelled p E D → IsCancelled p C D
   pub reached : (maps : GradedMaps n) → IsCancellationReached p E maps → IsCancellationReached p C maps
 
--- the maps of a resolution with the images of their columns, each in the ring's own order and with the degrees of its leads
-abbrev pub AreCarriedBy : (ring : Ring) → (FormalSum (variables ring) → FormalSum (variables ring)) → List Map → List Carried → Type 0
-AreCarriedBy ring f [] [] = ⊤
-AreCarriedBy ring f [] (c ∷ cs) = ⊥
-AreCarriedBy ring f (m ∷ maps) [] = ⊥
-AreCarriedBy ring f (m ∷ maps) (c ∷ cs) =
-    AreColumnImages ring f m.columns c.columns × (c.degrees.items ≡ degrees_of ring m.row_degrees.items m.columns) × AreCarriedBy ring f maps cs
-
 -- the columns are one by one the same vectors, in the ring's own order
 abbrev pub AreOwn : Ring → List (List (CodeKey × ℕ)) → List (List (CodeKey × ℕ)) → Type 0
 AreOwn ring = AreColumnImages ring (λ v. v)
 
 -- the maps of a resolution, each in the ring's own order and with the degrees of its leads
 abbrev pub AreCarried : Ring → List Map → List Carried → Type 0
-AreCarried ring = AreCarriedBy ring (λ v. v)
+AreCarried ring [] [] = ⊤
+AreCarried ring [] (c ∷ cs) = ⊥
+AreCarried ring (m ∷ maps) [] = ⊥
+AreCarried ring (m ∷ maps) (c ∷ cs) =
+    AreOwn ring m.columns c.columns × (c.degrees.items ≡ degrees_of ring m.row_degrees.items m.columns) × AreCarried ring maps cs

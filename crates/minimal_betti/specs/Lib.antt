@@ -5,7 +5,7 @@ pub mod Tables
 -- what holds while constants leave, and invariants of loops
 pub mod Carried
 pub mod Complementing
-pub mod ConstantMaps
+pub mod CountedMaps
 pub mod Growing
 pub mod Splitting
 pub mod Stopping

@@ -1,44 +1,67 @@
 // Betti numbers of any graded resolution, by its constants.
-ghost use Rattle.std.specs.Prelude.{◌≡◌, ℕ, List, IfOk, map};
+ghost use Rattle.std.specs.Prelude.{ℕ, List, IfOk};
 ghost use Rattle.betti_laws.specs.Tables.{step_count};
-ghost use Rattle.formal_sums.specs.FormalSums.{FormalSum};
+ghost use Rattle.formal_sums.specs.FormalSums.{Each, FormalSum};
 ghost use Rattle.minimal_laws.specs.Gradings.{GradedMaps};
 ghost use Rattle.minimal_laws.specs.Minimal.{IsMinimal, Presents};
 ghost use Rattle.term_lists.specs.Rings.{variables};
-ghost use Rattle.minimal_betti.specs.Carried.{graded_map};
+ghost use Rattle.term_lists.specs.Vectors.{AreTermsOver, sums_of};
+ghost use Rattle.resolution_maps.specs.Resolved.{degrees_of};
+ghost use Rattle.column_passes.specs.Passing.{AreGradedColumns};
+ghost use Rattle.column_passes.specs.Placing.{ArePlacesAfter};
+ghost use Rattle.constant_passes.specs.Choosing.{lowered};
+ghost use Rattle.minimal_betti.specs.CountedMaps.{IsMapCounted};
 ghost use Rattle.minimal_betti.specs.Graded.{IsGradedResolution, graded_of};
 ghost use Rattle.minimal_betti.specs.Tables.{IsBettiTable};
 
-use crate::cancelling::cancelled_maps;
-use crate::carried::Carried;
-use crate::constant_maps::constant_maps;
 use crate::tables::{BettiEntry, push_step, step_above};
+use column_passes::{kept_items, none_leaving};
+use constant_passes::{Chosen, chosen};
 use module_vectors::{NoMemory, Ring, lawful_setting};
-use resolution_maps::Resolution;
+use resolution_maps::{Map, Resolution, column_degrees};
 use std::alloc::Global;
+use std::mem::replace;
 
-// The counts of the positions and of the maps' columns.
-fn carried_table(
+// Counts the rows of a map that stay when its constants leave, and returns the degrees of its columns that stay. The degrees of its
+// rows are those that the former map's constants left, and so are its rows.
+fn count_map(
     alloc: Global,
-    positions: &[u32],
-    maps: &[Carried],
-) -> Result<Vec<BettiEntry>, NoMemory>
-    ensures { IfOk result (λ entries. (n : ℕ) → IsBettiTable (step_count positions.now (map (graded_map n) maps.now)) entries.items) }
+    ring: &Ring,
+    map: &Map,
+    step: u32,
+    former: Vec<u32>,
+    last: &mut Chosen,
+    entries: &mut Vec<BettiEntry>,
+) -> Result<Vec<u32>, NoMemory>
+    requires terms { Each (AreTermsOver ring.now) map.now.columns }
+    requires leaving { (rows : List ℕ) × ArePlacesAfter rows last.old.indices }
+    requires graded { (rows : List ℕ) → ArePlacesAfter rows last.old.indices
+        → AreGradedColumns ring.now (degrees_of ring.now map.now.row_degrees.items map.now.columns)
+        (lowered rows (sums_of (variables ring.now) map.now.columns)) }
+    ensures { (rows : List ℕ) → ArePlacesAfter rows last.old.indices
+        → IfOk result (λ left. IsMapCounted ring.now rows map.now step former.items last.new entries.old.items entries.new.items left.items) }
 {
-    let mut entries = Vec::new(alloc);
-    push_step(0, positions, &mut entries)?;
-    for k in 0..maps.len() {
-        let map = &maps[k];
-        push_step(step_above(k)?, &map.degrees, &mut entries)?;
-    }
-    Ok(entries)
+    let degrees = column_degrees(alloc, ring, &map.row_degrees, &map.columns)?;
+    let next = chosen(
+        alloc,
+        ring,
+        &degrees,
+        &last.indices,
+        map.columns.as_slice(),
+    )?;
+    let kept = kept_items(alloc, &next.rows, former)?;
+    push_step(step, &kept, entries)?;
+    let left = kept_items(alloc, &next.indices, degrees)?;
+    drop(replace(last, next));
+    Ok(left)
 }
 
 /// The Betti numbers of the module that a graded resolution presents, as a table: the counts of each minimal resolution of it.
-/// Nothing is looked at but the constants of the maps: they leave as in `minimal`, which is elimination with residues, and what is
-/// left is counted (Eisenbud, The Geometry of Syzygies, proposition 1.7).
+/// Nothing is looked at but the constants of the maps: they leave map by map as in `minimal`, which is elimination with residues, and
+/// what is left is counted (Eisenbud, The Geometry of Syzygies, proposition 1.7).
 ///
-/// `NoMemory` where there is none, and where the degree of a column or the number of maps is 2^32 or more.
+/// `NoMemory` where there is none, where the degree of a column or the number of maps is 2^32 or more, and where the place of a row
+/// is.
 pub fn betti_table(
     alloc: Global,
     ring: &Ring,
@@ -51,11 +74,18 @@ pub fn betti_table(
         → IfOk result (λ entries. IsBettiTable (step_count D.positions D.maps) entries.items) }
 {
     lawful_setting(ring);
-    let mut positions = Vec::from_slice(alloc, &resolution.positions)?;
-    let maps = constant_maps(alloc, ring, &resolution.maps)?;
-    match cancelled_maps(alloc, ring, &mut positions, maps) {
-        Ok(left) => carried_table(alloc, &positions, &left),
-        // No product of constants is too great.
-        Err(_) => Err(NoMemory),
+    let mut entries = Vec::new(alloc);
+    let mut former = Vec::from_slice(alloc, &resolution.positions)?;
+    let mut last = Chosen {
+        rows: none_leaving(alloc),
+        indices: none_leaving(alloc),
+    };
+    let mut step: u32 = 0;
+    for k in 0..resolution.maps.len() {
+        let map = &resolution.maps[k];
+        former = count_map(alloc, ring, map, step, former, &mut last, &mut entries)?;
+        step = step_above(k)?;
     }
+    push_step(step, &former, &mut entries)?;
+    Ok(entries)
 }

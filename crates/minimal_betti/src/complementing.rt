@@ -3,15 +3,17 @@ ghost use Rattle.std.specs.Prelude.{◌≡◌, ◌<◌, [], List, ℕ, IfOk, IfS
 ghost use Rattle.formal_sums.specs.FormalSums.{Each};
 ghost use Rattle.term_lists.specs.Rings.{ring_comparison, variables};
 ghost use Rattle.term_lists.specs.Vectors.{AreVectorsOver, sums_of};
-ghost use Rattle.column_passes.specs.Passing.{AreFirstSteps, IsChosen, Pivot};
+ghost use Rattle.column_passes.specs.Passing.{AreFirstSteps, AreGradedColumns, Pivot};
 ghost use Rattle.column_passes.specs.Placing.{ArePlacesAfter, all_removed};
+ghost use Rattle.constant_passes.specs.Choosing.{IsChosen};
 ghost use Rattle.minimal_betti.specs.Carried.{graded_maps};
 ghost use Rattle.minimal_betti.specs.Complementing.{AreComplemented, AreGone, ComesTo, IsApart, IsComplemented, IsMapLowered};
 ghost use Rattle.minimal_betti.specs.Splitting.{IsCancellationUnderway};
 
 use crate::carried::Carried;
-use column_passes::{Leaving, Passed, chosen, columns_without, kept_items, leaves, none_leaving};
+use column_passes::{Leaving, columns_without, kept_items, leaves, none_leaving};
 use complements::complements;
+use constant_passes::{Chosen, chosen};
 use module_vectors::{NoMemory, Ring, Vect, VectList, VectStop, lawful_setting};
 use std::alloc::Global;
 use std::mem::replace;
@@ -100,7 +102,7 @@ fn complemented_columns(
     alloc: Global,
     ring: &Ring,
     degrees: &[u32],
-    passed: &Passed,
+    passed: &Chosen,
     after: &Leaving,
     columns: VectList,
 ) -> Result<Option<VectList>, NoMemory>
@@ -140,14 +142,14 @@ fn complemented_columns(
 fn complemented_map(
     alloc: Global,
     ring: &Ring,
-    passed: &Passed,
+    passed: &Chosen,
     after: &Leaving,
     map: Carried,
 ) -> Result<Option<Carried>, NoMemory>
     requires vectors { AreVectorsOver ring.now (ring_comparison ring.now) map.columns }
-    requires chosen { IsChosen ring.now map.columns passed.now }
+    requires chosen { IsChosen ring.now (sums_of (variables ring.now) map.columns) passed.now }
     requires after { (out : List ℕ) × ArePlacesAfter out after.now }
-    ensures { (choice : IsChosen ring.now map.columns passed.now) (out : List ℕ) → ArePlacesAfter out after.now
+    ensures { (choice : IsChosen ring.now (sums_of (variables ring.now) map.columns) passed.now) (out : List ℕ) → ArePlacesAfter out after.now
         → IfOk result (λ found. IfSome found (IsComplemented ring.now choice.pivots out map)) }
 {
     let Carried { columns, degrees } = map;
@@ -177,6 +179,16 @@ fn lowered_map(
         columns: columns_without(alloc, ring, leaving, columns)?,
         degrees,
     })
+}
+
+// The rows and the columns that leave the map, by its constants alone.
+fn chosen_in(alloc: Global, ring: &Ring, map: &Carried) -> Result<Chosen, NoMemory>
+    requires vectors { AreVectorsOver ring.now (ring_comparison ring.now) map.now.columns }
+    requires graded { AreGradedColumns ring.now map.now.degrees.items (sums_of (variables ring.now) map.now.columns) }
+    ensures { IfOk result (IsChosen ring.now (sums_of (variables ring.now) map.now.columns)) }
+{
+    let none = none_leaving(alloc);
+    chosen(alloc, ring, &map.degrees, &none, map.columns.as_slice())
 }
 
 // The positions that are left.
@@ -214,12 +226,12 @@ pub(crate) fn complemented_maps(
     let Some(first) = rest.pop() else {
         return Ok(Some(done));
     };
-    let mut passed = chosen(alloc, ring, &first.degrees, &first.columns)?;
+    let mut passed = chosen_in(alloc, ring, &first)?;
     leave_positions(alloc, &passed.rows, positions)?;
     let mut current = first;
     while let Some(popped) = rest.pop() {
         let next = lowered_map(alloc, ring, &passed.indices, popped)?;
-        let next_passed = chosen(alloc, ring, &next.degrees, &next.columns)?;
+        let next_passed = chosen_in(alloc, ring, &next)?;
         match complemented_map(alloc, ring, &passed, &next_passed.rows, current)? {
             None => return Ok(None),
             Some(map) => done.push(map)?,

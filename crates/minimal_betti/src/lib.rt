@@ -10,7 +10,6 @@ mod by_steps;
 mod cancelling;
 mod carried;
 mod complementing;
-mod constant_maps;
 mod counting;
 mod leaving;
 mod splitting;

@@ -1,8 +1,7 @@
 use Rattle.std.specs.Prelude.{IfSome}
 use Rattle.std.proofs.Common.{List, [], arith, map, refl, reverse, rules, subst, sym, ℕ, ◌<◌, ◌≡◌}
 use Rattle.term_lists.specs.Rings.{variables}
-use Rattle.term_lists.specs.Vectors.{sums_of}
-use Rattle.column_passes.specs.Passing.{AreGradedColumns, Pivot}
+use Rattle.column_passes.specs.Passing.{Pivot}
 use Rattle.minimal_betti.specs.Carried.{graded_maps}
 use Rattle.minimal_betti.specs.Complementing.{ComesTo, IsComplemented}
 use Rattle.minimal_betti.proofs.Pending.{IsPending, next_graded, next_vectors, pending_first, pending_last, pending_next, pending_none}
@@ -33,22 +32,21 @@ lowered_map-requires-clause-vectors c =
     next_vectors ring (omega (arith, above)) (graded_maps ring c.args.positions.now.items (reverse c.args.maps.items)) c.loop-popped.rest.items
     c.pop-in-loop-popped.new.self.items c.in-Some-pop.popped c.in-Some-pop.ensures.items c.loop-popped.invariant.ordered_rest
 
-pub chosen-requires-in-Some-pop-clause-vectors : goal.chosen-requires-in-Some-pop-clause-vectors
-chosen-requires-in-Some-pop-clause-vectors c =
+pub chosen_in-requires-in-Some-pop-clause-vectors : goal.chosen_in-requires-in-Some-pop-clause-vectors
+chosen_in-requires-in-Some-pop-clause-vectors c =
     let h = c.loop-popped.invariant in
     let is = map (λ (s : Pivot (variables c.args.ring.now)). s.index) h.choice.pivots in
     (c.in_ok-next.ensures is h.choice.indices).0.vectors
 
-pub chosen-requires-in-Some-pop-clause-graded : goal.chosen-requires-in-Some-pop-clause-graded
-chosen-requires-in-Some-pop-clause-graded c =
+pub chosen_in-requires-in-Some-pop-clause-graded : goal.chosen_in-requires-in-Some-pop-clause-graded
+chosen_in-requires-in-Some-pop-clause-graded c =
     let ring = c.args.ring.now in
     let h = c.loop-popped.invariant in
     let is = map (λ (s : Pivot (variables ring)). s.index) h.choice.pivots in
     let above : 1 < ring.modulus.value = (c.lawful_setting.ensures 0).domain.above_one in
     let C = graded_maps ring c.args.positions.now.items (reverse c.args.maps.items) in
-    subst (λ (ds : List ℕ). AreGradedColumns ring ds (sums_of (variables ring) c.in_ok-next.next.columns)) (sym c.deref-in-Some-pop.ensures.value)
-    (next_graded ring (omega (arith, above)) C c.leave_positions.new.positions.items c.loop-popped.done.items c.loop-popped.current c.loop-popped.passed
-    c.loop-popped.rest.items c.pop-in-loop-popped.new.self.items c.in-Some-pop.popped c.in_ok-next.next h c.in-Some-pop.ensures.items (c.in_ok-next.ensures is h.choice.indices))
+    next_graded ring (omega (arith, above)) C c.leave_positions.new.positions.items c.loop-popped.done.items c.loop-popped.current c.loop-popped.passed
+    c.loop-popped.rest.items c.pop-in-loop-popped.new.self.items c.in-Some-pop.popped c.in_ok-next.next h c.in-Some-pop.ensures.items (c.in_ok-next.ensures is h.choice.indices)
 
 pub loop-popped-preserved : goal.loop-popped-preserved
 loop-popped-preserved c =
