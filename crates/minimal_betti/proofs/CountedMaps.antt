@@ -23,7 +23,7 @@ use Rattle.column_passes.specs.Passing.{AreGradedColumns, Pivot}
 use Rattle.column_passes.specs.Placing.{ArePlacesAfter, all_removed}
 use Rattle.column_passes.specs.declared.placing.Leaving.{Leaving}
 use Rattle.column_passes.proofs.Lists.{drop_item, drop_none}
-use Rattle.constant_passes.specs.Choosing.{IsChosen, lowered}
+use Rattle.constant_passes.specs.Choosing.{lowered}
 use Rattle.constant_passes.specs.declared.leaving.Chosen.{Chosen}
 use Rattle.minimal_betti.specs.CountedMaps.{IsMapCounted}
 use Rattle.minimal_betti.specs.Growing.{IsDone, IsTableTo}
@@ -31,7 +31,8 @@ use Rattle.minimal_betti.specs.Tables.{IsBettiTable, IsCountedEntry}
 use Rattle.minimal_betti.specs.declared.tables.BettiEntry.{BettiEntry}
 use Rattle.minimal_betti.proofs.Counts.{table_same}
 use Rattle.minimal_betti.proofs.Growing.{table_done, table_start}
-use Rattle.minimal_betti.proofs.Stepped.{AreStepped, left_map, lowered_alike, lowered_map, stepped_end, stepped_graded, stepped_lowered, stepped_next, stepped_start}
+use Rattle.minimal_betti.proofs.Stepped.{AreStepped, left_map, lowered_alike, lowered_map}
+use Rattle.minimal_betti.proofs.Stepped.{stepped_end, stepped_graded, stepped_lowered, stepped_next, stepped_start}
 use Rattle.minimal_betti.proofs.Stepping.{lose, lose_all, lose_last}
 
 -- ---- counts of maps that lose columns
@@ -150,7 +151,8 @@ map_at :
     → m ≡ get_or maps k m → graded_own ring m ≡ get_or (joined_maps ring places maps) k d
 map_at ring places [] k m d joined lt is = absurd (omega (arith, lt))
 map_at ring places (x ∷ maps) zero m d joined lt is =
-    ap (graded_own ring) is ∙ ap (λ (r : List ℕ). record { columns = sums_of (variables ring) x.columns; degrees = degrees_of ring r x.columns }) joined.0.degrees
+    ap (graded_own ring) is
+    ∙ ap (λ (r : List ℕ). record { columns = sums_of (variables ring) x.columns; degrees = degrees_of ring r x.columns }) joined.0.degrees
 map_at ring places (x ∷ maps) (suc k) m d joined lt is = map_at ring (degrees_of ring places x.columns) maps k m d joined.1 (omega (arith, lt)) is
 
 pub next_map :
@@ -218,21 +220,25 @@ module _ (ring : Ring) (C : GradedMaps (variables ring)) (m : Map) (tail : List 
       λ d. count_end lost.0 lost.1 L step d (omega (arith, size)) ∙ ap (λ k. step_count lost.0 lost.1 k d) (sym size) ∙ count_last lost.0 lost.1 d
       ∙ ap (occurrences d) (last_all_lost {n = n} p rows h.places h.maps ∙ ap (all_removed rows) h.last) in
       let before : (k d : ℕ) → k < step → step_count h.places h.maps k d ≡ counts k d =
-      λ k d lt. sym (count_end lost.0 lost.1 L k d (omega (arith, lt, size)) ∙ count_all_lost {n = n} p rows h.places h.maps k d (let e = h.count in omega (arith, lt, e))) in
+      λ k d lt.
+      sym (count_end lost.0 lost.1 L k d (omega (arith, lt, size))
+      ∙ count_all_lost {n = n} p rows h.places h.maps k d (let e = h.count in omega (arith, lt, e))) in
       let more = length_end lost.1 L in
       record {
         places = lost.0;
         maps = lost.1 ++ L ∷ [];
         rows = map (λ (s : Pivot n). s.index) made.choice.pivots;
         told = made.choice.indices;
-        stepped = stepped_next ring C h.places h.maps (lowered_map h.rows (graded_own ring m)) tail pos met made.choice.pivots made.choice.firsts made.choice.none;
+        stepped = stepped_next ring C h.places h.maps (lowered_map h.rows (graded_own ring m)) tail pos met made.choice.pivots made.choice.firsts
+            made.choice.none;
         count = omega (arith, more, size);
         last = last_end lost.0 lost.1 L ∙ sym made.degrees;
         table = made.counted counts here (table_alike (step_count h.places h.maps) counts entries step before h.table);
       }
 
 -- ---- the end
-none_anywhere : {n : ℕ} (p : ℕ) (maps : List (GradedMap n)) → Each (λ (D : GradedMap n). HasNoConstants p D.columns) maps → (k c r : ℕ) → HasConstant p maps k c r → ⊥
+none_anywhere : {n : ℕ} (p : ℕ) (maps : List (GradedMap n)) → Each (λ (D : GradedMap n). HasNoConstants p D.columns) maps → (k c r : ℕ)
+    → HasConstant p maps k c r → ⊥
 none_anywhere p [] none k c r h = elim h [ ]
 none_anywhere p (M ∷ maps) none zero c r h = none.0 c r h.1
 none_anywhere p (M ∷ maps) none (suc k) c r h = none_anywhere p maps none.1 k c r h

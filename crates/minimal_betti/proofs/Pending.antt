@@ -78,20 +78,6 @@ pending_none ring rows maps left e el u =
       underway = subst₂ (λ (x : List Carried) (y : List Carried). IsCancellationUnderway ring rows x y) (sym el) none u;
     }
 
--- the first of maps that are underway
-module _ (ring : Ring) (rows : List ℕ) (maps rest : List Carried) (first : Carried) (popped : maps ≡ rest ++ first ∷ [])
-    (u : IsCancellationUnderway ring rows [] (reverse maps)) where
-  turn : reverse maps ≡ first ∷ reverse rest
-  turn = ap reverse popped ∙ reverse-append rest (first ∷ [])
-
-  pub first_vectors : AreVectorsOver ring (ring_comparison ring) first.columns
-  first_vectors = let h : AreOrdered ring (first ∷ reverse rest) = subst (AreOrdered ring) turn u.ordered in h.0
-
-  pub first_graded : AreGradedColumns ring first.degrees.items (sums_of (variables ring) first.columns)
-  first_graded =
-      let h = subst (λ (z : List Carried). AreGraded ring.weights ring.modulus.value rows (map (graded_map (variables ring)) z)) turn u.graded in
-      (rows, h.0)
-
 module _ (ring : Ring) (pos : 0 < ring.modulus.value) (C : GradedMaps (variables ring)) where
   abbrev G : Carried → GradedMap (variables ring)
   G m = graded_map (variables ring) m

@@ -1,8 +1,7 @@
--- Columns of a map that is split, put one by one, and maps that are carried
-use Rattle.std.specs.Prelude.{drop}
-use Rattle.std.proofs.Common.{List, [], ap, arith, get_or, inl, inr, length, map, refl, remove, reverse, subst, subst₂, suc, sym, take, zero, ℕ}
+-- Columns of a map that is split, put one by one
+use Rattle.std.proofs.Common.{List, [], ap, arith, get_or, inl, inr, length, map, refl, remove, subst, suc, sym, take, zero, ℕ}
 use Rattle.std.proofs.Common.{◌++◌, ◌+◌, ◌<◌, ◌∙◌, ◌∷◌, ◌≡◌, ◌≤◌}
-use Rattle.std.proofs.lemmas.List.{get_or_default, map-append, reverse-append, take_all}
+use Rattle.std.proofs.lemmas.List.{get_or_default, map-append, take_all}
 use Rattle.formal_sums.proofs.Sameness.{IsSame_sym}
 use Rattle.formal_sums.specs.FormalSums.{FormalSum}
 use Rattle.minimal_laws.specs.Cancellation.{AreSameColumns, remove_at}
@@ -10,15 +9,9 @@ use Rattle.term_lists.specs.Rings.{ring_comparison, variables}
 use Rattle.term_lists.specs.Vectors.{AreVectorsOver, StandsFor, sum_of, sums_of}
 use Rattle.term_lists.specs.declared.key.Key.{Key as CodeKey}
 use Rattle.term_lists.specs.declared.ring.Ring.{Ring}
-use Rattle.resolution_maps.specs.Resolved.{degrees_of}
-use Rattle.resolution_maps.specs.declared.maps.Map.{Map}
 use Rattle.column_passes.proofs.Columns.{nothing_same, same_pushed, sums_more, vectors_pushed}
-use Rattle.column_passes.proofs.Lists.{drop_item}
-use Rattle.column_passes.specs.ConstantColumns.{AreColumnImages}
 use Rattle.column_passes.specs.declared.constants.Constant.{Constant}
-use Rattle.minimal_betti.specs.Carried.{AreCarriedBy}
 use Rattle.minimal_betti.specs.Splitting.{AreSplit, IsOtherPut, split_of}
-use Rattle.minimal_betti.specs.declared.carried.Carried.{Carried}
 
 abbrev Terms : Type 0
 Terms = List (CodeKey × ℕ)
@@ -114,19 +107,3 @@ pub removed_past : {X : Type 0} (xs : List X) (i : ℕ) → length xs ≤ i → 
 removed_past [] i le = refl
 removed_past (x ∷ xs) zero le = absurd (omega (arith, le))
 removed_past (x ∷ xs) (suc i) le = ap (λ r. x ∷ r) (removed_past xs i (omega (arith, le)))
-
-module _ (ring : Ring) (f : FormalSum (variables ring) → FormalSum (variables ring)) where
-  pub carried_more :
-      (maps : List Map) (k j : ℕ) (m : Map) (old new : List Carried) (c : Carried) → j + 1 ≡ k → k ≤ length maps → m ≡ get_or maps j m
-      → AreColumnImages ring f m.columns c.columns → c.degrees.items ≡ degrees_of ring m.row_degrees.items m.columns
-      → AreCarriedBy ring f (drop k maps) (reverse old) → new ≡ old ++ c ∷ [] → AreCarriedBy ring f (drop j maps) (reverse new)
-  carried_more maps k j m old new c ej le is images degrees h en =
-      subst₂ (AreCarriedBy ring f) (sym (drop_item maps j m (omega (arith, ej, le)) is ∙ ap (λ i. m ∷ drop i maps) ej))
-      (sym (ap reverse en ∙ reverse-append old (c ∷ []))) (images, degrees, h)
-
-  pub carried_start : (maps : List Map) (new : List Carried) → new ≡ [] → AreCarriedBy ring f (drop (length maps) maps) (reverse new)
-  carried_start maps new e = subst (λ z. AreCarriedBy ring f (drop (length maps) maps) (reverse z)) (sym e) (go maps)
-    where
-      go : (maps : List Map) → AreCarriedBy ring f (drop (length maps) maps) []
-      go [] = tt
-      go (m ∷ maps) = go maps

@@ -22,7 +22,8 @@ abbrev Terms : Type 0
 Terms = List (CodeKey × ℕ)
 
 -- ---- columns without rows depend on the places that are told alone
-placed_alike : (rows others : List ℕ) (leaving : Leaving) (v : Terms) → ArePlacesAfter rows leaving → ArePlacesAfter others leaving → placed rows v ≡ placed others v
+placed_alike : (rows others : List ℕ) (leaving : Leaving) (v : Terms) → ArePlacesAfter rows leaving → ArePlacesAfter others leaving
+    → placed rows v ≡ placed others v
 placed_alike rows others leaving [] a b = refl
 placed_alike rows others leaving (t ∷ v) a b =
     ap₂ (λ place z. put_at place t z) (sym (a t.0.position) ∙ b t.0.position) (placed_alike rows others leaving v a b)
@@ -31,7 +32,9 @@ pub lowered_alike : (n : ℕ) (rows others : List ℕ) (leaving : Leaving) (F : 
     → lowered rows (sums_of n F) ≡ lowered others (sums_of n F)
 lowered_alike n rows others leaving [] a b = refl
 lowered_alike n rows others leaving (v ∷ F) a b =
-    ap₂ ◌∷◌ (sym (left_sum n rows v) ∙ ap (λ z. sum_of n z) (sym (placed_is rows v) ∙ placed_alike rows others leaving v a b ∙ placed_is others v) ∙ left_sum n others v)
+    ap₂ ◌∷◌
+    (sym (left_sum n rows v) ∙ ap (λ z. sum_of n z) (sym (placed_is rows v) ∙ placed_alike rows others leaving v a b ∙ placed_is others v)
+    ∙ left_sum n others v)
     (lowered_alike n rows others leaving F a b)
 
 -- ---- maps

@@ -14,7 +14,8 @@ use Rattle.minimal_betti.specs.declared.tables.BettiEntry.{BettiEntry}
 
 -- the steps on the map without these rows are known: the rows of these degrees that stay are counted at this step, and the degrees of
 -- the columns that stay are left
-pub record IsMapCounted (ring : Ring) (rows : List ℕ) (m : Map) (step : ℕ) (former : List ℕ) (chosen : Chosen) (old new : List BettiEntry) (left : List ℕ) : Type 0 where
+pub record IsMapCounted (ring : Ring) (rows : List ℕ) (m : Map) (step : ℕ) (former : List ℕ) (chosen : Chosen) (old new : List BettiEntry)
+    (left : List ℕ) : Type 0 where
   pub choice : IsChosen ring (lowered rows (sums_of (variables ring) m.columns)) chosen
   pub counted : (counts : ℕ → ℕ → ℕ) → ((d : ℕ) → counts step d ≡ occurrences d (all_removed (map (λ s. s.row) choice.pivots) former))
       → IsTableTo counts old step 0 → IsTableTo counts new (step + 1) 0

@@ -22,8 +22,8 @@ use resolution_maps::{Map, Resolution, column_degrees};
 use std::alloc::Global;
 use std::mem::replace;
 
-// Counts the rows of a map that stay when its constants leave, and returns the degrees of its columns that stay. The degrees of its
-// rows are those that the former map's constants left, and so are its rows.
+// Counts the rows of a map that stay when its constants leave, and gives the degrees of its columns that stay. Its rows are the
+// columns that stayed of the map before it; these have the degrees `former`, and `last` tells which left.
 fn count_map(
     alloc: Global,
     ring: &Ring,
@@ -42,13 +42,7 @@ fn count_map(
         → IfOk result (λ left. IsMapCounted ring.now rows map.now step former.items last.new entries.old.items entries.new.items left.items) }
 {
     let degrees = column_degrees(alloc, ring, &map.row_degrees, &map.columns)?;
-    let next = chosen(
-        alloc,
-        ring,
-        &degrees,
-        &last.indices,
-        map.columns.as_slice(),
-    )?;
+    let next = chosen(alloc, ring, &degrees, &last.indices, map.columns.as_slice())?;
     let kept = kept_items(alloc, &next.rows, former)?;
     push_step(step, &kept, entries)?;
     let left = kept_items(alloc, &next.indices, degrees)?;
@@ -60,8 +54,7 @@ fn count_map(
 /// Nothing is looked at but the constants of the maps: they leave map by map as in `minimal`, which is elimination with residues, and
 /// what is left is counted (Eisenbud, The Geometry of Syzygies, proposition 1.7).
 ///
-/// `NoMemory` where there is none, where the degree of a column or the number of maps is 2^32 or more, and where the place of a row
-/// is.
+/// `NoMemory` where there is none, and where the degree of a column, the place of a row or the number of maps is 2^32 or more.
 pub fn betti_table(
     alloc: Global,
     ring: &Ring,

@@ -255,7 +255,7 @@ fn minimal_by_passes(
 ///
 /// `Degree` comes where a column is cleared of its entry in the row of the first constant, and a product of a monomial of that
 /// entry and the constant's column is too great, with the trail of that product; `Memory` where there is none, and where the
-/// degree of a column is 2^32 or more.
+/// degree of a column or the place of a row is 2^32 or more.
 pub fn minimal(alloc: Global, ring: &Ring, resolution: &Resolution) -> Result<Resolution, WorkStop>
     requires { IsGradedResolution ring.now resolution.now }
     ensures cancelled { IfOk result (IsCancellationOf ring.now resolution.now) }

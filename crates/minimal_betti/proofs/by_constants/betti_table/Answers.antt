@@ -1,5 +1,5 @@
 use Rattle.std.specs.Prelude.{drop}
-use Rattle.std.proofs.Common.{List, [], ap, arith, length, refl, subst, sym, ℕ, ◌+◌, ◌<◌, ◌∙◌, ◌∷◌, ◌≡◌, ◌≤◌}
+use Rattle.std.proofs.Common.{List, ap, arith, length, refl, subst, sym, ◌+◌, ◌<◌, ◌∙◌, ◌∷◌, ◌≡◌, ◌≤◌}
 use Rattle.formal_sums.specs.FormalSums.{Each}
 use Rattle.minimal_laws.specs.Gradings.{GradedMap}
 use Rattle.betti_laws.specs.Tables.{occurrences}
@@ -66,8 +66,8 @@ returns c = λ places A D P minimal Q.
     let r = c.args.resolution.now in
     let C = graded_of ring r in
     let le : length r.maps.items ≤ c.loop-k.k = omega arith in
-    counted_end ring (c.lawful_setting.ensures 0) C c.loop-k.last.indices c.loop-k.step c.loop-k.former.items c.loop-k.entries.items c.push_step.new.entries.items
-    c.requires.graded c.requires.exact
+    counted_end ring (c.lawful_setting.ensures 0) C c.loop-k.last.indices c.loop-k.step c.loop-k.former.items c.loop-k.entries.items
+    c.push_step.new.entries.items c.requires.graded c.requires.exact
     (subst (λ (z : List (GradedMap (variables ring))). AreCounted ring C z c.loop-k.last.indices c.loop-k.step c.loop-k.former.items c.loop-k.entries.items)
     (no_map ring r.positions.items r.maps.items c.loop-k.k le) c.loop-k.invariant.counted)
     (λ counts here before. c.in_ok-push_step.ensures counts (λ d. here d ∙ ap (occurrences d) (sym c.deref-2.ensures.value)) before) places A D P minimal Q

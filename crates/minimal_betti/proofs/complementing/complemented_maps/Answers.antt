@@ -1,5 +1,5 @@
 use Rattle.std.specs.Prelude.{IfSome}
-use Rattle.std.proofs.Common.{List, [], arith, map, refl, reverse, rules, subst, sym, ℕ, ◌<◌, ◌≡◌}
+use Rattle.std.proofs.Common.{[], arith, map, refl, reverse, rules, subst, sym, ◌<◌, ◌≡◌}
 use Rattle.term_lists.specs.Rings.{variables}
 use Rattle.column_passes.specs.Passing.{Pivot}
 use Rattle.minimal_betti.specs.Carried.{graded_maps}
