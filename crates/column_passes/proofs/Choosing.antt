@@ -9,7 +9,7 @@ use Rattle.minimal_laws.specs.Cancellation.{AreSameColumns}
 use Rattle.term_lists.specs.Rings.{variables}
 use Rattle.term_lists.specs.declared.ring.Ring.{Ring}
 use Rattle.column_passes.specs.Constants.{HasNoConstants}
-use Rattle.column_passes.specs.Passing.{AreFirstSteps, Pivot, add_index, indices_in_turn, left_by_all, rows_in_turn}
+use Rattle.column_passes.specs.Passing.{AreFirstSteps, Pivot, indices_in_turn, indices_of, left_by_all, rows_in_turn}
 use Rattle.column_passes.specs.Sorting.{numbers_from}
 use Rattle.column_passes.specs.declared.one_pass.Met.{Met}
 use Rattle.column_passes.proofs.Applying.{constant_there, no_constant_at}
@@ -22,11 +22,6 @@ use Rattle.column_passes.proofs.Turning.{AreTurned}
 abbrev pub choice_of : List (Option (ℕ × ℕ)) → ℕ → Option (ℕ × ℕ)
 choice_of choices c = get_or choices c None
 
--- the numbers of the columns that leave, each by how many before it are kept
-abbrev pub indices_by : ℕ → List (Option (ℕ × ℕ)) → List ℕ
-indices_by kept [] = []
-indices_by kept (x ∷ choices) = add_index x kept (λ k. indices_by k choices)
-
 -- pivots in turn with the rows of these, whose rows keep their numbers
 pub record AreStepsOf (ring : Ring) (F : List (FormalSum (variables ring))) (T : List (Pivot (variables ring)))
     (choices : List (Option (ℕ × ℕ))) : Type 0 where
@@ -34,7 +29,7 @@ pub record AreStepsOf (ring : Ring) (F : List (FormalSum (variables ring))) (T :
   pub firsts : AreFirstSteps ring F pivots
   pub none : HasNoConstants ring.modulus.value (left_by_all ring pivots F)
   pub turned : AreTurned [] T (map (λ (s : Pivot (variables ring)). s.row) pivots)
-  pub indices_are : map (λ (s : Pivot (variables ring)). s.index) pivots ≡ indices_by 0 choices
+  pub indices_are : map (λ (s : Pivot (variables ring)). s.index) pivots ≡ indices_of 0 choices
 
 -- columns with these choices
 abbrev with_choices : List (Option (ℕ × ℕ)) → List Met
@@ -44,7 +39,7 @@ choice_is : (choices : List (Option (ℕ × ℕ))) (c : ℕ) → choice_of choic
 choice_is choices c =
     sym (ap (λ (m : Met). m.choice) (get_or-images (λ (x : Option (ℕ × ℕ)). record { column = []; since = 0; choice = x }) choices c None))
 
-indices_are : (kept : ℕ) (choices : List (Option (ℕ × ℕ))) → indices_in_turn kept (with_choices choices) ≡ indices_by kept choices
+indices_are : (kept : ℕ) (choices : List (Option (ℕ × ℕ))) → indices_in_turn kept (with_choices choices) ≡ indices_of kept choices
 indices_are kept [] = refl
 indices_are kept (None ∷ choices) = indices_are (kept + 1) choices
 indices_are kept (Some a ∷ choices) = ap (λ z. kept ∷ z) (indices_are kept choices)

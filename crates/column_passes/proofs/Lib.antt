@@ -11,6 +11,7 @@ pub mod Numbering
 pub mod Passes
 pub mod Places
 pub mod Reordering
+pub mod RowsTold
 pub mod Turning
 pub mod Units
 pub mod Zeros

@@ -1,5 +1,6 @@
--- The steps that a vector meets
-use Rattle.std.proofs.Common.{List, [], ap, arith, drop, get_or, length, refl, subst, suc, sym, zero, ℕ, ◌++◌, ◌+◌, ◌-◌, ◌<◌, ◌∙◌, ◌∷◌, ◌≡◌, ◌≤◌}
+-- The steps that a vector meets, and the numbers of rows
+use Rattle.std.proofs.Common.{List, [], ap, arith, drop, get_or, length, map, refl, subst, suc, sym, zero, ℕ, ◌++◌, ◌+◌, ◌-◌, ◌<◌, ◌∙◌, ◌∷◌, ◌≡◌, ◌≤◌}
+use Rattle.std.proofs.lemmas.List.{length-map, map-append}
 use Rattle.formal_sums.proofs.Linear.{linear_same}
 use Rattle.formal_sums.proofs.Sameness.{IsSame_of, IsSame_trans}
 use Rattle.formal_sums.specs.FormalSums.{Each, FormalSum, IsSame}
@@ -12,7 +13,7 @@ use Rattle.term_lists.specs.declared.ring.Ring.{Ring}
 use Rattle.column_passes.specs.Passing.{AreNumbered, HaveNoOthers, cleared_all}
 use Rattle.column_passes.specs.declared.steps.Step.{Step}
 use Rattle.column_passes.proofs.Clearings.{cleared_other}
-use Rattle.column_passes.proofs.Lists.{all_map, drop_item, drop_none, each_left, each_right}
+use Rattle.column_passes.proofs.Lists.{all_map, drop_item, drop_none, each_left, each_mapped, each_right}
 
 abbrev Terms : Type 0
 Terms = List (CodeKey × ℕ)
@@ -21,16 +22,21 @@ Terms = List (CodeKey × ℕ)
 abbrev number : List ℕ → CodeKey × ℕ → ℕ
 number numbers t = get_or numbers t.0.position 18446744073709551615
 
-numbered_drop : (numbers : List ℕ) (j i : ℕ) (steps : List Step) → AreNumbered numbers j steps → AreNumbered numbers (j + i) (drop i steps)
-numbered_drop numbers j zero steps h = let e : j ≡ j + 0 = omega arith in subst (λ z. AreNumbered numbers z steps) e h
+-- the rows of the steps
+abbrev rows_of : List Step → List ℕ
+rows_of steps = map (λ (s : Step). s.row) steps
+
+numbered_drop :
+    (numbers : List ℕ) (j i : ℕ) (steps : List Step) → AreNumbered numbers j (rows_of steps) → AreNumbered numbers (j + i) (rows_of (drop i steps))
+numbered_drop numbers j zero steps h = let e : j ≡ j + 0 = omega arith in subst (λ z. AreNumbered numbers z (rows_of steps)) e h
 numbered_drop numbers j (suc i) [] h = tt
-numbered_drop numbers j (suc i) (s ∷ steps) h = let e : (j + 1) + i ≡ j + suc i = omega arith in subst (λ z. AreNumbered numbers z (drop i steps)) e
-    (numbered_drop numbers (j + 1) i steps h.1)
+numbered_drop numbers j (suc i) (s ∷ steps) h = let e : (j + 1) + i ≡ j + suc i = omega arith in
+    subst (λ z. AreNumbered numbers z (rows_of (drop i steps))) e (numbered_drop numbers (j + 1) i steps h.1)
 
 module _ (ring : Ring) where
   -- the steps before the next one take nothing away
   skipped :
-      (numbers : List ℕ) (j k from : ℕ) (steps : List Step) (v : Terms) → AreNumbered numbers j steps → from ≤ j
+      (numbers : List ℕ) (j k from : ℕ) (steps : List Step) (v : Terms) → AreNumbered numbers j (rows_of steps) → from ≤ j
       → Each (λ t. from ≤ number numbers t → j + k ≤ number numbers t) v
       → cleared_all ring steps (sum_of (variables ring) v) ≡ cleared_all ring (drop k steps) (sum_of (variables ring) v)
   skipped numbers j zero from steps v h le next = refl
@@ -55,8 +61,8 @@ module _ (ring : Ring) where
   cleared_all_same pos (s ∷ steps) v w e =
       cleared_all_same pos steps _ _ (linear_same pos (linear_cleared ring.modulus.value s.row s.inverse (sum_of (variables ring) s.column)) e)
 
-  module _ (numbers : List ℕ) (steps : List Step) (from next : ℕ) (out : Terms) (V : FormalSum (variables ring)) (numbered : AreNumbered numbers 0 steps)
-      (after : from ≤ next) (least : Each (λ t. from ≤ number numbers t → next ≤ number numbers t) out)
+  module _ (numbers : List ℕ) (steps : List Step) (from next : ℕ) (out : Terms) (V : FormalSum (variables ring))
+      (numbered : AreNumbered numbers 0 (rows_of steps)) (after : from ≤ next) (least : Each (λ t. from ≤ number numbers t → next ≤ number numbers t) out)
       (h : IsSame ring.modulus.value (cleared_all ring (drop from steps) (sum_of (variables ring) out)) V) where
     pub to_next : IsSame ring.modulus.value (cleared_all ring (drop next steps) (sum_of (variables ring) out)) V
     to_next =
@@ -64,7 +70,7 @@ module _ (ring : Ring) where
         let e : from + k ≡ next = omega (arith, after) in
         let f : 0 + from ≡ from = omega arith in
         let q = skipped numbers from k from (drop from steps) out
-        (subst (λ z. AreNumbered numbers z (drop from steps)) f (numbered_drop numbers 0 from steps numbered)) (omega arith)
+        (subst (λ z. AreNumbered numbers z (rows_of (drop from steps))) f (numbered_drop numbers 0 from steps numbered)) (omega arith)
         (subst (λ z. Each (λ t. from ≤ number numbers t → z ≤ number numbers t) out) (sym e) least)
         in
         IsSame_trans (IsSame_of ring.modulus.value _ _
@@ -89,31 +95,50 @@ module _ (ring : Ring) where
     pub next_none : length steps ≤ next → StandsFor ring out V
     next_none le = subst (λ z. IsSame ring.modulus.value (cleared_all ring z (sum_of (variables ring) out)) V) (drop_none steps next le) to_next
 
--- ---- one step more
-pub numbered_end :
-    (old new : List ℕ) (i : ℕ) (steps : List Step) (s : Step) → AreNumbered old i steps → Each (λ t. t.row ≡ s.row → ⊥) steps
-    → ((q : ℕ) → (q ≡ s.row → ⊥) → get_or new q 18446744073709551615 ≡ get_or old q 18446744073709551615)
-    → get_or new s.row 18446744073709551615 ≡ i + length steps → AreNumbered new i (steps ++ s ∷ [])
-numbered_end old new i [] s h other same here = (here ∙ omega arith, tt)
-numbered_end old new i (t ∷ steps) s h other same here = (
-  same t.row other.0 ∙ h.0,
-  numbered_end old new (i + 1) steps s h.1 other.1 same (let e : i + length (t ∷ steps) ≡ (i + 1) + length steps = omega arith in here ∙ e),
+-- ---- one item more, in another row
+numbered_end :
+    (old new : List ℕ) (i : ℕ) (rows : List ℕ) (row : ℕ) → AreNumbered old i rows → Each (λ r. r ≡ row → ⊥) rows
+    → ((q : ℕ) → (q ≡ row → ⊥) → get_or new q 18446744073709551615 ≡ get_or old q 18446744073709551615)
+    → get_or new row 18446744073709551615 ≡ i + length rows → AreNumbered new i (rows ++ row ∷ [])
+numbered_end old new i [] row h other same here = (here ∙ omega arith, tt)
+numbered_end old new i (r ∷ rows) row h other same here = (
+  same r other.0 ∙ h.0,
+  numbered_end old new (i + 1) rows row h.1 other.1 same (let e : i + length (r ∷ rows) ≡ (i + 1) + length rows = omega arith in here ∙ e),
 )
 
-pub others_end :
-    (old new : List ℕ) (steps : List Step) (s : Step) → HaveNoOthers old steps
-    → ((q : ℕ) → (q ≡ s.row → ⊥) → get_or new q 18446744073709551615 ≡ get_or old q 18446744073709551615) → HaveNoOthers new (steps ++ s ∷ [])
-others_end old new steps s h same q other =
-    same q (λ e. (each_right (λ (t : Step). t.row ≡ q → ⊥) steps (s ∷ []) other).0 (sym e))
-    ∙ h q (each_left (λ (t : Step). t.row ≡ q → ⊥) steps (s ∷ []) other)
+others_end :
+    (old new rows : List ℕ) (row : ℕ) → HaveNoOthers old rows
+    → ((q : ℕ) → (q ≡ row → ⊥) → get_or new q 18446744073709551615 ≡ get_or old q 18446744073709551615) → HaveNoOthers new (rows ++ row ∷ [])
+others_end old new rows row h same q other =
+    same q (λ e. (each_right (λ (r : ℕ). r ≡ q → ⊥) rows (row ∷ []) other).0 (sym e)) ∙ h q (each_left (λ (r : ℕ). r ≡ q → ⊥) rows (row ∷ []) other)
 
--- a row without a number is of no step
+rows_more : {X : Type 0} (row : X → ℕ) (before after : List X) (x : X) → after ≡ before ++ x ∷ [] → map row after ≡ map row before ++ row x ∷ []
+rows_more row before after x e = ap (map row) e ∙ map-append row before (x ∷ [])
+
+pub numbered_more :
+    {X : Type 0} (row : X → ℕ) (old new : List ℕ) (before after : List X) (x : X) → after ≡ before ++ x ∷ []
+    → ((q : ℕ) → (q ≡ row x → ⊥) → get_or new q 18446744073709551615 ≡ get_or old q 18446744073709551615)
+    → get_or new (row x) 18446744073709551615 ≡ length before → Each (λ y. row y ≡ row x → ⊥) before → AreNumbered old 0 (map row before)
+    → AreNumbered new 0 (map row after)
+numbered_more row old new before after x e same here other h =
+    let count : length before ≡ 0 + length (map row before) = (let many = length-map before row in omega (arith, many)) in
+    subst (AreNumbered new 0) (sym (rows_more row before after x e))
+    (numbered_end old new 0 (map row before) (row x) h (each_mapped (λ (r : ℕ). r ≡ row x → ⊥) row before other) same (here ∙ count))
+
+pub others_more :
+    {X : Type 0} (row : X → ℕ) (old new : List ℕ) (before after : List X) (x : X) → after ≡ before ++ x ∷ []
+    → ((q : ℕ) → (q ≡ row x → ⊥) → get_or new q 18446744073709551615 ≡ get_or old q 18446744073709551615)
+    → HaveNoOthers old (map row before) → HaveNoOthers new (map row after)
+others_more row old new before after x e same h =
+    subst (HaveNoOthers new) (sym (rows_more row before after x e)) (others_end old new (map row before) (row x) h same)
+
+-- a row without a number is none of them
 pub numbered_off :
-    (numbers : List ℕ) (i : ℕ) (steps : List Step) (q : ℕ) → AreNumbered numbers i steps → i + length steps ≤ 18446744073709551615
-    → get_or numbers q 18446744073709551615 ≡ 18446744073709551615 → Each (λ (s : Step). s.row ≡ q → ⊥) steps
+    (numbers : List ℕ) (i : ℕ) (rows : List ℕ) (q : ℕ) → AreNumbered numbers i rows → i + length rows ≤ 18446744073709551615
+    → get_or numbers q 18446744073709551615 ≡ 18446744073709551615 → Each (λ r. r ≡ q → ⊥) rows
 numbered_off numbers i [] q h le none = tt
-numbered_off numbers i (s ∷ steps) q h le none = (
-  (λ e. let a : get_or numbers s.row 18446744073709551615 ≡ get_or numbers q 18446744073709551615 = ap (λ z. get_or numbers z 18446744073709551615) e in
+numbered_off numbers i (r ∷ rows) q h le none = (
+  (λ e. let a : get_or numbers r 18446744073709551615 ≡ get_or numbers q 18446744073709551615 = ap (λ z. get_or numbers z 18446744073709551615) e in
       let b = h.0 in omega (arith, a, b, none, le)),
-  numbered_off numbers (i + 1) steps q h.1 (omega (arith, le)) none,
+  numbered_off numbers (i + 1) rows q h.1 (omega (arith, le)) none,
 )

@@ -22,11 +22,10 @@ use Rattle.term_lists.specs.declared.ring.Ring.{Ring}
 use Rattle.column_passes.specs.Constants.{IsLeastUnit}
 use Rattle.column_passes.specs.Passing.{AreFinished, AreNumbered, HaveNoOthers, IsFreeOfSteps, IsGraded, IsMetOver, IsPassed, IsColumnSorted, IsStepOver}
 use Rattle.column_passes.specs.Passing.{LeaveNumbered, Pivot, add_kept, cleared_all, finished_all, indices_in_turn, left_by_all, rows_in_turn}
-use Rattle.column_passes.specs.Placing.{ArePlacesAfter, place_after, without_all}
+use Rattle.column_passes.specs.Placing.{ArePlacesAfter, without_all}
 use Rattle.column_passes.specs.Sorting.{AreByDegree, numbers_from}
 use Rattle.column_passes.specs.declared.one_pass.Met.{Met}
 use Rattle.column_passes.specs.declared.one_pass.Passed.{Passed}
-use Rattle.column_passes.specs.declared.placing.Leaving.{Leaving}
 use Rattle.column_passes.specs.declared.steps.Step.{Step}
 use Rattle.column_passes.proofs.Apart.{chosen_apart, free_row}
 use Rattle.column_passes.proofs.Applying.{columns_trans, constant_there, no_constant_at}
@@ -34,11 +33,10 @@ use Rattle.column_passes.proofs.ByDegree.{by_degree, each_by, order_is}
 use Rattle.column_passes.proofs.Canonical.{AreLeft, canonical, choice_at, column_of, head_of, kept_of, left, none_left, not_met, same_first, tail}
 use Rattle.column_passes.proofs.Canonical.{without_all_same}
 use Rattle.column_passes.proofs.Lists.{all_append, all_map, drop_none, each_mapped, each_unmapped, map_same}
-use Rattle.column_passes.proofs.Numbering.{numbered_off}
-use Rattle.column_passes.proofs.Reordering.{AreChosen, AreDistinct, AreOff, IsChosen, IsOff, after_end, chosen_agree, chosen_end, chosen_graded}
+use Rattle.column_passes.proofs.Reordering.{AreChosen, AreDistinct, IsChosen, after_end, chosen_agree, chosen_end, chosen_graded}
 use Rattle.column_passes.proofs.Reordering.{chosen_same, cleared_alike, distinct_order, each_unby, grown, homogeneous_through, numbers_inside}
-use Rattle.column_passes.proofs.Reordering.{off_choices, off_pivots, others_before, pivots_after, sorted_chosen, through, through_end}
-use Rattle.column_passes.proofs.Turning.{AreTurned, free_place, is_there, same_places, turned_none}
+use Rattle.column_passes.proofs.Reordering.{others_before, pivots_after, sorted_chosen, through, through_end}
+use Rattle.column_passes.proofs.RowsTold.{rows_told}
 use Rattle.column_passes.proofs.Units.{first_unit, no_constant}
 use Rattle.column_passes.proofs.Zeros.{each_both, homogeneous_there}
 
@@ -409,61 +407,18 @@ module _ (ring : Ring) (lawful : IsLawful (setting ring (variables ring) (ring_c
         go None q e more = same_first ring.modulus.value _ _ _ _
             (without_all_same pos out _ _ (IsSame_sym (IsSame_trans (q e).1 (sorted.1 (column_of F i))))) more
 
-    -- the rows of the pivots are those of the steps
-    off_steps : (q : ℕ) → Each (λ (s : Step). s.row ≡ q → ⊥) steps → AreOff q C
-    off_steps q off =
-        let p = ring.modulus.value in
-        let D = pivots_after p (column_of F) (choice_at met) [] (take k order) in
-        let pivots : AreOff q D =
-        each_unmapped (λ r. r ≡ q → ⊥) (λ (s : Pivot (variables ring)). s.row) D
-        (subst (Each (λ r. r ≡ q → ⊥)) h.rows_are (each_mapped (λ r. r ≡ q → ⊥) (λ (s : Step). s.row) steps off))
-        in
-        let choices = (off_choices p (column_of F) (choice_at met) q [] (take k order) pivots).1 in
-        off_pivots p (column_of F) (choice_at met) q [] (numbers_from 0 (length met)) tt
-        (subst (λ n. Each (λ c. IsOff q (choice_at met c)) (numbers_from 0 n)) (sym h.count)
-        (each_unby _ degrees (numbers_from 0 (length columns)) (subst (Each (λ c. IsOff q (choice_at met c))) all choices)))
-
-    off_pivots_all : (q : ℕ) → AreOff q C → Each (λ (s : Step). s.row ≡ q → ⊥) steps
-    off_pivots_all q off =
-        let p = ring.modulus.value in
-        let D = pivots_after p (column_of F) (choice_at met) [] (take k order) in
-        let choices = (off_choices p (column_of F) (choice_at met) q [] (numbers_from 0 (length met)) off).1 in
-        let pivots : AreOff q D =
-        off_pivots p (column_of F) (choice_at met) q [] (take k order) tt
-        (subst (Each (λ c. IsOff q (choice_at met c))) (sym all)
-        (each_by _ degrees (numbers_from 0 (length columns)) (subst (λ n. Each (λ c. IsOff q (choice_at met c)) (numbers_from 0 n)) h.count choices)))
-        in
-        each_unmapped (λ r. r ≡ q → ⊥) (λ (s : Step). s.row) steps
-        (subst (Each (λ r. r ≡ q → ⊥)) (sym h.rows_are) (each_mapped (λ r. r ≡ q → ⊥) (λ (s : Pivot (variables ring)). s.row) D pivots))
-
-    -- so those rows leave that have a number
-    module _ (numbers : List ℕ) (numbered : AreNumbered numbers 0 steps) (others : HaveNoOthers numbers steps) (few : length steps ≤ 18446744073709551615)
-        (out : List ℕ) (turned : AreTurned [] C out) where
-      out_stays : (q : ℕ) → get_or numbers q 18446744073709551615 ≡ 18446744073709551615 → place_after out q ≡ None → ⊥
-      out_stays q none gone =
-          let place = free_place C out q turned (off_steps q (numbered_off numbers 0 steps q numbered (omega (arith, few)) none)) in
-          true≢false (ap is_there (sym place.1 ∙ gone))
-
-      out_leaves : (q : ℕ) → (get_or numbers q 18446744073709551615 ≡ 18446744073709551615 → ⊥) → place_after out q ≡ None
-      out_leaves q some = go (place_after out q) refl
-        where
-          go : (place : Option ℕ) → place_after out q ≡ place → place ≡ None
-          go None e = refl
-          go (Some r) e =
-              let off : AreOff q C =
-              all_map _ _ C (λ (s : Pivot (variables ring)) none row. true≢false (ap is_there (sym e ∙ sym (ap (place_after out) row) ∙ none)))
-              (turned_none [] C out turned)
-              in
-              absurd (some (others q (off_pivots_all q off)))
-
-      rows_told : (leaving : Leaving) → LeaveNumbered numbers leaving → ArePlacesAfter out leaving
-      rows_told leaving l q =
-          l.turn q
-          ∙ same_places l.rows out (λ i z. out_leaves i (λ none. l.stay i none (l.turn i ∙ z)))
-          (λ i z. sym (l.turn i) ∙ l.leave i (λ none. out_stays i none z)) q
+    -- the rows of the steps are those of the pivots by degree
+    rows_by_degree :
+        map (λ (s : Step). s.row) steps
+        ≡ map (λ (s : Pivot (variables ring)). s.row)
+        (pivots_after ring.modulus.value (column_of (sums_of (variables ring) columns)) (choice_at met) [] (by_degree degrees (numbers_from 0 (length met))))
+    rows_by_degree =
+        h.rows_are ∙ ap (λ z. map (λ (s : Pivot (variables ring)). s.row) (pivots_after ring.modulus.value (column_of F) (choice_at met) [] z))
+        (all ∙ ap (λ i. by_degree degrees (numbers_from 0 i)) (sym h.count))
 
     pub pass_all :
-        (passed : Passed) (numbers : List ℕ) → AreNumbered numbers 0 steps → HaveNoOthers numbers steps → length steps ≤ 18446744073709551615
+        (passed : Passed) (numbers : List ℕ) → AreNumbered numbers 0 (map (λ (s : Step). s.row) steps)
+        → HaveNoOthers numbers (map (λ (s : Step). s.row) steps) → length steps ≤ 18446744073709551615
         → LeaveNumbered numbers passed.rows → ((out : List ℕ) → ArePlacesAfter out passed.rows → AreFinished ring steps out met passed.columns)
         → ArePlacesAfter (indices_in_turn 0 met) passed.indices → IsPassed ring columns passed
     pass_all passed numbers numbered others few leave finish indices =
@@ -481,7 +436,8 @@ module _ (ring : Ring) (lawful : IsLawful (setting ring (variables ring) (ring_c
         let ends = canonical ring pos F met met 0 [] [] [] [] refl size start sorted.0 in
         let K = kept_of (column_of F) 0 met in
         let at = ends.kept_all in
-        let turn = rows_told numbers numbered others few (rows_in_turn [] met) at.turned passed.rows leave in
+        let turn = rows_told p (column_of F) (choice_at met) degrees (length met) (map (λ (s : Step). s.row) steps) rows_by_degree numbers numbered others
+        (subst (λ z. z ≤ 18446744073709551615) (sym (length-map steps (λ (s : Step). s.row))) few) (rows_in_turn [] met) at.turned passed.rows leave in
         let f = finish (rows_in_turn [] met) turn in
         let through_end' : AreSameColumns p (left_by_all ring ends.pivots F) (map (left ring C (rows_in_turn [] met)) K) =
         subst (λ z. AreSameColumns p (left_by_all ring ends.pivots F) (map (left ring C (rows_in_turn [] met)) z))

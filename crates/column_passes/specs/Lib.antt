@@ -5,4 +5,4 @@ pub mod Passing
 pub mod Placing
 pub mod Sorting
 -- what those of the crates above cite
-pub mod ConstantColumns
+pub mod ColumnImages

@@ -65,14 +65,14 @@ abbrev pub cleared_all : (ring : Ring) → List Step → FormalSum (variables ri
 cleared_all ring [] v = v
 cleared_all ring (s ∷ steps) v = cleared_all ring steps (cleared ring.modulus.value s.row s.inverse (sum_of (variables ring) s.column) v)
 
--- the table has at each step's row the number of the step, from this number on
-abbrev pub AreNumbered : List ℕ → ℕ → List Step → Type 0
+-- the table numbers these rows in turn, from this number on
+abbrev pub AreNumbered : List ℕ → ℕ → List ℕ → Type 0
 AreNumbered numbers i [] = ⊤
-AreNumbered numbers i (s ∷ steps) = (get_or numbers s.row 18446744073709551615 ≡ i) × AreNumbered numbers (i + 1) steps
+AreNumbered numbers i (row ∷ rows) = (get_or numbers row 18446744073709551615 ≡ i) × AreNumbered numbers (i + 1) rows
 
--- a row of no step has no number
-abbrev pub HaveNoOthers : List ℕ → List Step → Type 0
-HaveNoOthers numbers steps = (q : ℕ) → Each (λ s. s.row ≡ q → ⊥) steps → get_or numbers q 18446744073709551615 ≡ 18446744073709551615
+-- no other row has a number
+abbrev pub HaveNoOthers : List ℕ → List ℕ → Type 0
+HaveNoOthers numbers rows = (q : ℕ) → Each (λ r. r ≡ q → ⊥) rows → get_or numbers q 18446744073709551615 ≡ 18446744073709551615
 
 -- those leave that have a number
 pub record LeaveNumbered (numbers : List ℕ) (leaving : Leaving) : Type 0 where
@@ -118,6 +118,10 @@ add_index (Some a) kept more = kept ∷ more kept
 abbrev pub indices_in_turn : ℕ → List Met → List ℕ
 indices_in_turn kept [] = []
 indices_in_turn kept (m ∷ met) = add_index m.choice kept (λ k. indices_in_turn k met)
+
+abbrev pub indices_of : ℕ → List (Option (ℕ × ℕ)) → List ℕ
+indices_of kept [] = []
+indices_of kept (choice ∷ choices) = add_index choice kept (λ k. indices_of k choices)
 
 -- a kept column
 abbrev pub add_kept : {X : Type 0} → Option (ℕ × ℕ) → X → List X → List X

@@ -1,5 +1,5 @@
 // One pass over the columns of a map, by degree, after which they have no constants.
-ghost use Rattle.std.specs.Prelude.{◌≡◌, ◌<◌, [], List, ℕ, IfOk, OnOk, get_or, length};
+ghost use Rattle.std.specs.Prelude.{◌≡◌, ◌<◌, [], List, ℕ, IfOk, OnOk, get_or, length, map};
 ghost use Rattle.formal_sums.specs.FormalSums.{Each};
 ghost use Rattle.term_lists.specs.Rings.{ring_comparison, variables};
 ghost use Rattle.term_lists.specs.Vectors.{AreVectorsOver, IsVectorOver, sums_of};
@@ -67,12 +67,12 @@ fn sort_column(
 ) -> Result<(), NoMemory>
     requires vector { IsVectorOver ring.now (ring_comparison ring.now) column }
     requires inside { index < length met.old.items }
-    requires numbered { AreNumbered table.old.numbers.items 0 table.old.steps.items }
-    requires others { HaveNoOthers table.old.numbers.items table.old.steps.items }
+    requires numbered { AreNumbered table.old.numbers.items 0 (map (λ s. s.row) table.old.steps.items) }
+    requires others { HaveNoOthers table.old.numbers.items (map (λ s. s.row) table.old.steps.items) }
     requires free { IsFreeOfSteps column table.old.steps.items }
     ensures sorted { OnOk result (IsColumnSorted ring.now index column table.old.steps.items table.new.steps.items met.old.items met.new.items) }
-    ensures numbered { OnOk result (AreNumbered table.new.numbers.items 0 table.new.steps.items) }
-    ensures others { OnOk result (HaveNoOthers table.new.numbers.items table.new.steps.items) }
+    ensures numbered { OnOk result (AreNumbered table.new.numbers.items 0 (map (λ s. s.row) table.new.steps.items)) }
+    ensures others { OnOk result (HaveNoOthers table.new.numbers.items (map (λ s. s.row) table.new.steps.items)) }
 {
     lawful_setting(ring);
     match least_unit(&column) {
@@ -158,7 +158,7 @@ fn finish(
 ) -> Result<VectList, VectStop>
     requires leaving { (rows : List ℕ) × ArePlacesAfter rows leaving.now }
     requires steps { Each (IsStepOver ring.now) table.now.steps.items }
-    requires numbered { AreNumbered table.now.numbers.items 0 table.now.steps.items }
+    requires numbered { AreNumbered table.now.numbers.items 0 (map (λ s. s.row) table.now.steps.items) }
     requires met { Each (IsMetOver ring.now table.now.steps.items) met.items }
     ensures { (rows : List ℕ) → ArePlacesAfter rows leaving.now
         → IfOk result (AreFinished ring.now table.now.steps.items rows met.items) }
@@ -186,7 +186,7 @@ fn finish_pass(
     met: Vec<Met>,
 ) -> Result<Passed, VectStop>
     requires steps { Each (IsStepOver ring.now) table.now.steps.items }
-    requires numbered { AreNumbered table.now.numbers.items 0 table.now.steps.items }
+    requires numbered { AreNumbered table.now.numbers.items 0 (map (λ s. s.row) table.now.steps.items) }
     requires met { Each (IsMetOver ring.now table.now.steps.items) met.items }
     ensures rows { IfOk result (λ p. LeaveNumbered table.now.numbers.items p.rows) }
     ensures indices { IfOk result (λ p. ArePlacesAfter (indices_in_turn 0 met.items) p.indices) }

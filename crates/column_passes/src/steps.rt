@@ -1,5 +1,5 @@
 // Constants that left a map, and vectors after them.
-ghost use Rattle.std.specs.Prelude.{◌≡◌, ◌≤◌, ◌++◌, ◌∷◌, [], ℕ, IfOk, OnOk, drop, get_or};
+ghost use Rattle.std.specs.Prelude.{◌≡◌, ◌≤◌, ◌++◌, ◌∷◌, [], ℕ, IfOk, OnOk, drop, get_or, map};
 ghost use Rattle.formal_sums.specs.FormalSums.{Each};
 ghost use Rattle.term_lists.specs.Rings.{ring_comparison, variables};
 ghost use Rattle.term_lists.specs.Vectors.{IsVectorOver, StandsFor, sum_of};
@@ -84,7 +84,7 @@ pub(crate) fn clear_since(
     v: Vect,
 ) -> Result<Vect, VectStop>
     requires steps { Each (IsStepOver ring.now) table.now.steps.items }
-    requires numbered { AreNumbered table.now.numbers.items 0 table.now.steps.items }
+    requires numbered { AreNumbered table.now.numbers.items 0 (map (λ s. s.row) table.now.steps.items) }
     requires vector { IsVectorOver ring.now (ring_comparison ring.now) v }
     ensures vector { IfOk result (IsVectorOver ring.now (ring_comparison ring.now)) }
     ensures sum { let n = variables ring.now in
@@ -122,11 +122,11 @@ fn number_row(numbers: &mut Vec<u64>, row: u64, number: u64) -> Result<(), NoMem
 
 /// Puts the step behind the others; they have other rows.
 pub(crate) fn push_step(table: &mut StepTable, step: Step) -> Result<(), NoMemory>
-    requires numbered { AreNumbered table.old.numbers.items 0 table.old.steps.items }
-    requires others { HaveNoOthers table.old.numbers.items table.old.steps.items }
+    requires numbered { AreNumbered table.old.numbers.items 0 (map (λ s. s.row) table.old.steps.items) }
+    requires others { HaveNoOthers table.old.numbers.items (map (λ s. s.row) table.old.steps.items) }
     requires other { Each (λ s. s.row ≡ step.row → ⊥) table.old.steps.items }
-    ensures numbered { OnOk result (AreNumbered table.new.numbers.items 0 table.new.steps.items) }
-    ensures others { OnOk result (HaveNoOthers table.new.numbers.items table.new.steps.items) }
+    ensures numbered { OnOk result (AreNumbered table.new.numbers.items 0 (map (λ s. s.row) table.new.steps.items)) }
+    ensures others { OnOk result (HaveNoOthers table.new.numbers.items (map (λ s. s.row) table.new.steps.items)) }
     ensures steps { OnOk result (table.new.steps.items ≡ table.old.steps.items ++ step ∷ []) }
 {
     let number = table.steps.len() as u64;

@@ -1,5 +1,5 @@
 -- Sums by row, cleared by the steps' columns
-use Rattle.std.proofs.Common.{List, [], ap, append-nil, arith, cond, drop, eq-eqb, get_or, inl, inr, length, refl, subst, suc, sym, zero, ℕ}
+use Rattle.std.proofs.Common.{List, [], ap, append-nil, arith, cond, drop, eq-eqb, get_or, inl, inr, length, map, refl, subst, suc, sym, zero, ℕ}
 use Rattle.std.proofs.Common.{◌%◌, ◌*◌, ◌+◌, ◌++◌, ◌-◌, ◌<◌, ◌∙◌, ◌∷◌, ◌≡◌, ◌≤◌, ◌⊎◌}
 use Rattle.residues.proofs.Congruences.{IsCongruent_mod, IsCongruent_multiply, IsCongruent_of, IsCongruent_refl, IsCongruent_trans}
 use Rattle.residues.specs.Residues.{IsCongruent}
@@ -14,11 +14,12 @@ use Rattle.term_lists.specs.Rings.{variables}
 use Rattle.term_lists.specs.declared.ring.Ring.{Ring}
 use Rattle.constant_rows.proofs.Reading.{zeros_same}
 use Rattle.constant_rows.specs.Rows.{AddsConstants, AreZeros, entry_constants, row_constants}
+use Rattle.column_passes.specs.Passing.{AreNumbered}
 use Rattle.column_passes.proofs.Clearings.{minus_product, nat_eq-other, scale_congruent}
 use Rattle.column_passes.proofs.Lists.{drop_item, drop_none}
-use Rattle.constant_passes.specs.Steps.{AreNumbered, cleared_all}
+use Rattle.constant_passes.specs.Steps.{cleared_by_constants}
 use Rattle.constant_passes.specs.declared.clearing.Step.{Step}
-use Rattle.constant_passes.proofs.Numbering.{cleared_all_same, skipped}
+use Rattle.constant_passes.proofs.Numbering.{cleared_by_constants_same, skipped}
 
 -- ---- the entry of sums in a row
 component_before : {n : ℕ} (r i : ℕ) (sums : List ℕ) → r < i → component r (row_constants n i sums) ≡ []
@@ -104,16 +105,17 @@ module _ {n : ℕ} (p r s : ℕ) (W : FormalSum n) (sums : List ℕ) where
 module _ (ring : Ring) (steps : List Step) (pos : 0 < ring.modulus.value) where
   -- the constants are all the sums
   pub rows_start :
-      (numbers : List ℕ) (first : ℕ) (old sums : List ℕ) (entries : List (ℕ × ℕ)) → AreNumbered numbers 0 steps
+      (numbers : List ℕ) (first : ℕ) (old sums : List ℕ) (entries : List (ℕ × ℕ))
+      → AreNumbered numbers 0 (map (λ (s : Step). s.row) steps)
       → Each (λ e. first ≤ get_or numbers e.0 18446744073709551615) entries → AreZeros old → AddsConstants ring.modulus.value 1 entries old sums
-      → IsSame ring.modulus.value (cleared_all ring (drop first steps) (row_constants (variables ring) 0 sums))
-      (cleared_all ring steps (entry_constants (variables ring) entries))
+      → IsSame ring.modulus.value (cleared_by_constants ring (drop first steps) (row_constants (variables ring) 0 sums))
+      (cleared_by_constants ring steps (entry_constants (variables ring) entries))
   rows_start numbers first old sums entries numbered least zeros h =
       let n = variables ring in
       let p = ring.modulus.value in
       let f : first ≡ 0 + first = omega arith in
       IsSame_trans
-      (cleared_all_same ring pos (drop first steps) _ _
+      (cleared_by_constants_same ring pos (drop first steps) _ _
       (IsSame_trans (h n)
       (IsSame_trans (IsSame_append (zeros_same p 0 old zeros) (IsSame_refl p (scale 1 (unit n) (entry_constants n entries))))
       (IsSame_of p _ _ (scale-one (entry_constants n entries))))))
@@ -124,13 +126,13 @@ module _ (ring : Ring) (steps : List Step) (pos : 0 < ring.modulus.value) where
     pub rows_step :
         (k : ℕ) (s : Step) (old new : FormalSum (variables ring)) → k < length steps → s ≡ get_or steps k s
         → IsSame ring.modulus.value new (cleared ring.modulus.value s.row s.inverse (entry_constants (variables ring) s.column.entries.items) old)
-        → IsSame ring.modulus.value (cleared_all ring (drop k steps) old) V
-        → IsSame ring.modulus.value (cleared_all ring (drop (k + 1) steps) new) V
+        → IsSame ring.modulus.value (cleared_by_constants ring (drop k steps) old) V
+        → IsSame ring.modulus.value (cleared_by_constants ring (drop (k + 1) steps) new) V
     rows_step k s old new lt is stands h =
-        IsSame_trans (cleared_all_same ring pos (drop (k + 1) steps) new _ stands)
-        (subst (λ z. IsSame ring.modulus.value (cleared_all ring z old) V) (drop_item steps k s lt is) h)
+        IsSame_trans (cleared_by_constants_same ring pos (drop (k + 1) steps) new _ stands)
+        (subst (λ z. IsSame ring.modulus.value (cleared_by_constants ring z old) V) (drop_item steps k s lt is) h)
 
     pub rows_end :
         (k : ℕ) (old : FormalSum (variables ring)) → length steps ≤ k
-        → IsSame ring.modulus.value (cleared_all ring (drop k steps) old) V → IsSame ring.modulus.value old V
-    rows_end k old le h = subst (λ z. IsSame ring.modulus.value (cleared_all ring z old) V) (drop_none steps k le) h
+        → IsSame ring.modulus.value (cleared_by_constants ring (drop k steps) old) V → IsSame ring.modulus.value old V
+    rows_end k old le h = subst (λ z. IsSame ring.modulus.value (cleared_by_constants ring z old) V) (drop_none steps k le) h

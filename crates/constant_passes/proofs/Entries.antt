@@ -17,7 +17,7 @@ use Rattle.column_passes.proofs.Applying.{constant_there}
 use Rattle.column_passes.proofs.Lists.{all_append, all_map, contains_end, contains_left, each_in}
 use Rattle.column_passes.proofs.Reordering.{IsChosen as IsChoice}
 use Rattle.constant_passes.specs.Choosing.{AreFree, IsColumnChosen, IsLeastEntry}
-use Rattle.constant_passes.specs.Steps.{AreLeftOver, IsStepOver, cleared_all}
+use Rattle.constant_passes.specs.Steps.{AreLeftOver, IsConstantStep, cleared_by_constants}
 use Rattle.constant_passes.specs.declared.clearing.Step.{Step}
 
 -- ---- the least entry of one more
@@ -84,18 +84,18 @@ module _ (ring : Ring) (column : Constants) (over : AreLeftOver ring column) whe
   -- it stands in a row of no step
   pub free_entries :
       (steps : List Step) (v : FormalSum (variables ring))
-      → IsSame ring.modulus.value (entry_constants (variables ring) column.entries.items) (cleared_all ring steps v) → AreFree ring steps v
+      → IsSame ring.modulus.value (entry_constants (variables ring) column.entries.items) (cleared_by_constants ring steps v) → AreFree ring steps v
       → Each (λ e. Each (λ s. s.row ≡ e.0 → ⊥) steps) column.entries.items
   free_entries steps v same free =
       each_contained _ column.entries.items (λ (e : ℕ × ℕ) c. free e.0 (constant_there ring.modulus.value _ _ e.0 same
       (constant_of (variables ring) ring.modulus.value column.entries.items over.reduced over.coefficients e c)))
 
   pub steps_over :
-      (c : ℕ) (steps steps' : List Step) (choices choices' : List (Option (ℕ × ℕ))) → Each (IsStepOver ring) steps
-      → IsColumnChosen ring c column steps steps' choices choices' → Each (IsStepOver ring) steps'
-  steps_over c steps steps' choices choices' h (inl (none, es, ec)) = subst (Each (IsStepOver ring)) (sym es) h
+      (c : ℕ) (steps steps' : List Step) (choices choices' : List (Option (ℕ × ℕ))) → Each (IsConstantStep ring) steps
+      → IsColumnChosen ring c column steps steps' choices choices' → Each (IsConstantStep ring) steps'
+  steps_over c steps steps' choices choices' h (inl (none, es, ec)) = subst (Each (IsConstantStep ring)) (sym es) h
   steps_over c steps steps' choices choices' h (inr (row, inverse, residue, least, invert, below, es, ec)) =
-      subst (Each (IsStepOver ring)) (sym es) (all_append _ steps (_ ∷ []) h (
+      subst (Each (IsConstantStep ring)) (sym es) (all_append _ steps (_ ∷ []) h (
         record {
           below = over.below;
           reduced = all_map _ _ column.entries.items (λ (e : ℕ × ℕ) r. r.1) over.reduced;

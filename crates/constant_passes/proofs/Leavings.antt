@@ -2,11 +2,10 @@
 use Rattle.std.specs.Prelude.{None, Option, Some, is_some}
 use Rattle.std.proofs.Common.{Bool, List, [], ap, append-nil, arith, false, length, subst, sym, true, ℕ, ◌++◌, ◌+◌, ◌-◌, ◌∙◌, ◌∷◌, ◌≡◌, ◌≤◌}
 use Rattle.std.proofs.lemmas.List.{append_assoc}
-use Rattle.column_passes.specs.Passing.{add_index}
+use Rattle.column_passes.specs.Passing.{add_index, indices_of}
 use Rattle.column_passes.specs.Placing.{ArePlacesAfter, IsPlacePut}
 use Rattle.column_passes.specs.declared.placing.Leaving.{Leaving}
 use Rattle.column_passes.proofs.Places.{put_leaves, put_length, put_stays, told_none}
-use Rattle.constant_passes.specs.Choosing.{indices_of}
 
 -- the columns before the rest were met
 pub record AreIndicesTo (choices rest : List (Option (ℕ × ℕ))) (leaving : Leaving) : Type 0 where

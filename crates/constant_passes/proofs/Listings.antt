@@ -20,8 +20,8 @@ use Rattle.term_lists.specs.declared.ring.Ring.{Ring}
 use Rattle.constant_rows.specs.Rows.{entry_constants}
 use Rattle.column_passes.specs.Placing.{place_after, without_all}
 use Rattle.column_passes.proofs.Lists.{all_append, all_map}
-use Rattle.constant_passes.specs.Choosing.{lowered}
-use Rattle.constant_passes.specs.Listing.{constants_at, listed}
+use Rattle.constant_passes.specs.Choosing.{columns_without_rows}
+use Rattle.constant_passes.specs.Listing.{constants_at, entry_list}
 
 abbrev Terms : Type 0
 Terms = List (CodeKey × ℕ)
@@ -104,10 +104,10 @@ module _ (ring : Ring) (rows : List ℕ) (t : CodeKey × ℕ) (m : IsMonomialOve
 -- ---- one term more
 pub constants_more :
     (n : ℕ) (rows : List ℕ) (v : Terms) (i : ℕ) (t : CodeKey × ℕ) (old new : List (ℕ × ℕ)) (found : Option (ℕ × ℕ)) → i < length v
-    → t ≡ get_or v i t → entry_constants n old ≡ constants_at n rows (take i v) → constants_at n rows (t ∷ []) ≡ entry_constants n (listed found)
-    → new ≡ old ++ listed found → entry_constants n new ≡ constants_at n rows (take (i + 1) v)
+    → t ≡ get_or v i t → entry_constants n old ≡ constants_at n rows (take i v) → constants_at n rows (t ∷ []) ≡ entry_constants n (entry_list found)
+    → new ≡ old ++ entry_list found → entry_constants n new ≡ constants_at n rows (take (i + 1) v)
 constants_more n rows v i t old new found lt is h one more =
-    ap (entry_constants n) more ∙ map-append _ old (listed found) ∙ ap₂ (λ a b. a ++ b) h (sym one)
+    ap (entry_constants n) more ∙ map-append _ old (entry_list found) ∙ ap₂ (λ a b. a ++ b) h (sym one)
     ∙ sym (ap (λ z. constants_at n rows z) (take_item v i t lt is)
     ∙ ap (λ z. constant_part (without_all rows z)) (map-append _ (take i v) (t ∷ []))
     ∙ ap constant_part (without_all_append rows (sum_of n (take i v)) (sum_of n (t ∷ [])))
@@ -118,32 +118,33 @@ constants_start n rows new e = ap (entry_constants n) e ∙ sym (ap constant_par
 
 pub below_put :
     (old new : List (ℕ × ℕ)) (found : Option (ℕ × ℕ)) (width after : ℕ) → Each (λ e. e.0 < width) old → width ≤ after
-    → IfSome found (λ e. e.0 < after) → new ≡ old ++ listed found → Each (λ e. e.0 < after) new
+    → IfSome found (λ e. e.0 < after) → new ≡ old ++ entry_list found → Each (λ e. e.0 < after) new
 below_put old new found width after h le lt more =
     subst (Each (λ e. e.0 < after)) (sym more)
-    (all_append _ old (listed found) (all_map _ _ old (λ (e : ℕ × ℕ) l. omega (arith, l, le)) h) (go found lt))
+    (all_append _ old (entry_list found) (all_map _ _ old (λ (e : ℕ × ℕ) l. omega (arith, l, le)) h) (go found lt))
   where
-    go : (x : Option (ℕ × ℕ)) → IfSome x (λ e. e.0 < after) → Each (λ e. e.0 < after) (listed x)
+    go : (x : Option (ℕ × ℕ)) → IfSome x (λ e. e.0 < after) → Each (λ e. e.0 < after) (entry_list x)
     go None l = tt
     go (Some x) l = (l, tt)
 
 pub reduced_put :
     (p a : ℕ) (old new : List (ℕ × ℕ)) (found : Option (ℕ × ℕ)) → Each (λ e. e.1 < p) old → a < p → IfSome found (λ e. e.1 ≡ a)
-    → new ≡ old ++ listed found → Each (λ e. e.1 < p) new
-reduced_put p a old new found h lt is more = subst (Each (λ e. e.1 < p)) (sym more) (all_append _ old (listed found) h (go found is))
+    → new ≡ old ++ entry_list found → Each (λ e. e.1 < p) new
+reduced_put p a old new found h lt is more = subst (Each (λ e. e.1 < p)) (sym more) (all_append _ old (entry_list found) h (go found is))
   where
-    go : (x : Option (ℕ × ℕ)) → IfSome x (λ e. e.1 ≡ a) → Each (λ e. e.1 < p) (listed x)
+    go : (x : Option (ℕ × ℕ)) → IfSome x (λ e. e.1 ≡ a) → Each (λ e. e.1 < p) (entry_list x)
     go None e = tt
     go (Some x) e = (subst (λ z. z < p) (sym e) lt, tt)
 
 -- ---- the columns
 pub column_is :
     (n : ℕ) (rows : List ℕ) (columns : List Terms) (i : ℕ)
-    → get_or (map constant_part (lowered rows (sums_of n columns))) i [] ≡ constants_at n rows (get_or columns i [])
+    → get_or (map constant_part (columns_without_rows rows (sums_of n columns))) i [] ≡ constants_at n rows (get_or columns i [])
 column_is n rows [] i = sym (ap constant_part (without_all_nothing rows))
 column_is n rows (v ∷ columns) zero = refl
 column_is n rows (v ∷ columns) (suc i) = column_is n rows columns i
 
-pub columns_count : (n : ℕ) (rows : List ℕ) (columns : List Terms) → length (map constant_part (lowered rows (sums_of n columns))) ≡ length columns
+pub columns_count :
+    (n : ℕ) (rows : List ℕ) (columns : List Terms) → length (map constant_part (columns_without_rows rows (sums_of n columns))) ≡ length columns
 columns_count n rows [] = refl
 columns_count n rows (v ∷ columns) = ap suc (columns_count n rows columns)

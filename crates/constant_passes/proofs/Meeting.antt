@@ -1,9 +1,9 @@
 -- The columns of constants that are met by degree, and what leaves after all of them
 use Rattle.std.specs.Prelude.{IfOk, None, OnOk, Option, Some, set}
-use Rattle.std.proofs.Common.{Err, List, Ok, Result, [], ap, arith, get_or, inl, inr, length, map, refl, subst, suc, sym, take, true≢false, zero, ℕ}
+use Rattle.std.proofs.Common.{Err, List, Ok, Result, [], ap, arith, get_or, inl, inr, length, map, refl, subst, sym, take, ℕ}
 use Rattle.std.proofs.Common.{◌++◌, ◌+◌, ◌<◌, ◌∙◌, ◌∷◌, ◌≡◌, ◌≤◌, ◌⊎◌}
 use Rattle.std.proofs.lemmas.Bool.{cases_lt}
-use Rattle.std.proofs.lemmas.List.{get_or-set_other, get_or-set_same, get_or_past, length-set, map-append, take_all, take_more}
+use Rattle.std.proofs.lemmas.List.{get_or-set_other, get_or-set_same, get_or_past, length-map, length-set, map-append, take_all, take_more}
 use Rattle.residues.proofs.Congruences.{IsCongruent_refl}
 use Rattle.formal_sums.proofs.Sameness.{IsSame_of, IsSame_refl, IsSame_trans}
 use Rattle.formal_sums.specs.FormalSums.{Each, FormalSum, IsSame}
@@ -13,53 +13,32 @@ use Rattle.term_lists.specs.Rings.{variables}
 use Rattle.term_lists.specs.declared.ring.Ring.{Ring}
 use Rattle.constant_rows.specs.Rows.{entry_constants}
 use Rattle.constant_rows.specs.declared.constants.Constants.{Constants}
-use Rattle.column_passes.specs.Passing.{LeaveNumbered, Pivot}
-use Rattle.column_passes.specs.Placing.{ArePlacesAfter, place_after}
-use Rattle.column_passes.specs.Sorting.{AreByDegree, numbers_from}
-use Rattle.column_passes.specs.declared.placing.Leaving.{Leaving}
+use Rattle.column_passes.specs.Passing.{AreNumbered, HaveNoOthers, LeaveNumbered, Pivot, indices_of}
+use Rattle.column_passes.specs.Placing.{ArePlacesAfter}
+use Rattle.column_passes.specs.Sorting.{numbers_from}
 use Rattle.column_passes.proofs.Apart.{chosen_apart, free_row}
 use Rattle.column_passes.proofs.Applying.{constant_there}
-use Rattle.column_passes.proofs.ByDegree.{by_degree, each_by, order_is}
+use Rattle.column_passes.proofs.ByDegree.{by_degree}
 use Rattle.column_passes.proofs.Canonical.{column_of}
-use Rattle.column_passes.proofs.Choosing.{choice_of, indices_by, steps_of}
+use Rattle.column_passes.proofs.Choosing.{choice_of, steps_of}
 use Rattle.column_passes.proofs.Lists.{all_map, each_mapped, each_unmapped}
-use Rattle.column_passes.proofs.Reordering.{AreChosen, AreDistinct, AreOff, IsChosen as IsChoice, IsOff, after_end, chosen_agree, chosen_end}
-use Rattle.column_passes.proofs.Reordering.{chosen_same, cleared_alike, distinct_order, each_unby, grown, numbers_inside}
-use Rattle.column_passes.proofs.Reordering.{off_choices, off_pivots, others_before, pivots_after, sorted_chosen, through, through_end}
-use Rattle.column_passes.proofs.Turning.{AreTurned, free_place, is_there, same_places, turned_none}
-use Rattle.constant_passes.specs.Choosing.{AreFree, IsChosen, IsColumnChosen, IsPassOver, IsStart, indices_of}
-use Rattle.constant_passes.specs.Steps.{AreLeftOver, AreNumbered, HaveNoOthers, IsStepOver, cleared_all}
+use Rattle.column_passes.proofs.Reordering.{AreChosen, IsChosen as IsChoice, after_end, chosen_agree, chosen_end, chosen_same, cleared_alike}
+use Rattle.column_passes.proofs.Reordering.{grown, pivots_after, sorted_chosen, through, through_end}
+use Rattle.column_passes.proofs.RowsTold.{rows_told}
+use Rattle.constant_passes.specs.Choosing.{AreFree, IsChosen, IsColumnChosen, IsPassOver, IsPassStart}
+use Rattle.constant_passes.specs.Steps.{AreLeftOver, IsConstantStep, cleared_by_constants}
 use Rattle.constant_passes.specs.declared.choosing.Pass.{Pass}
 use Rattle.constant_passes.specs.declared.leaving.Chosen.{Chosen}
 use Rattle.constant_passes.specs.declared.clearing.Step.{Step}
 use Rattle.constant_passes.proofs.Entries.{least_chosen, nothing_left}
-use Rattle.constant_passes.proofs.Numbering.{numbered_off}
 
 cleared_end :
     (ring : Ring) (steps : List Step) (s : Step) (v : FormalSum (variables ring))
-    → cleared_all ring (steps ++ s ∷ []) v
-    ≡ cleared ring.modulus.value s.row s.inverse (entry_constants (variables ring) s.column.entries.items) (cleared_all ring steps v)
+    → cleared_by_constants ring (steps ++ s ∷ []) v
+    ≡ cleared ring.modulus.value s.row s.inverse (entry_constants (variables ring) s.column.entries.items) (cleared_by_constants ring steps v)
 cleared_end ring [] s v = refl
 cleared_end ring (t ∷ steps) s v =
     cleared_end ring steps s (cleared ring.modulus.value t.row t.inverse (entry_constants (variables ring) t.column.entries.items) v)
-
--- ---- the columns in their order by degree
-pub number_inside :
-    (degrees : List ℕ) (n : ℕ) (order : List ℕ) (k c : ℕ) → AreByDegree degrees n order → k < length order → c ≡ get_or order k c → c < n
-number_inside degrees n order k c h lt is =
-    at order k (subst (Each (λ c. c < n)) (sym (order_is degrees n order h))
-    (each_by (λ c. c < n) degrees (numbers_from 0 n) (numbers_inside 0 n n (omega arith)))) lt is
-  where
-    at : (xs : List ℕ) (k : ℕ) → Each (λ c. c < n) xs → k < length xs → c ≡ get_or xs k c → c < n
-    at [] k h lt is = absurd (omega (arith, lt))
-    at (x ∷ xs) zero h lt is = subst (λ z. z < n) (sym is) h.0
-    at (x ∷ xs) (suc k) h lt is = at xs k h.1 (omega (arith, lt)) is
-
-pub others_first :
-    (degrees : List ℕ) (n : ℕ) (order : List ℕ) (k c : ℕ) → AreByDegree degrees n order → k < length order → c ≡ get_or order k c
-    → Each (λ b. b ≡ c → ⊥) (take k order)
-others_first degrees n order k c h lt is =
-    others_before order k c (subst AreDistinct (sym (order_is degrees n order h)) (distinct_order degrees n)) lt is
 
 -- ---- after the first k columns of the order
 pub record AreMet (ring : Ring) (K : List (FormalSum (variables ring))) (order : List ℕ) (k : ℕ) (steps : List Step)
@@ -67,7 +46,7 @@ pub record AreMet (ring : Ring) (K : List (FormalSum (variables ring))) (order :
   pub chosen : AreChosen ring.modulus.value (column_of K) (choice_of choices) [] (take k order)
   pub alike :
       (v : FormalSum (variables ring))
-      → IsSame ring.modulus.value (cleared_all ring steps v)
+      → IsSame ring.modulus.value (cleared_by_constants ring steps v)
       (through ring.modulus.value (pivots_after ring.modulus.value (column_of K) (choice_of choices) [] (take k order)) v)
   pub rows_are :
       map (λ (s : Step). s.row) steps
@@ -97,7 +76,7 @@ module _ (ring : Ring) (pos : 0 < ring.modulus.value) (K : List (FormalSum (vari
 
     -- one column more, of which u is left
     module _ (lt : k < length order) (is : c ≡ get_or order k c) (inside : c < length K) (others : Each (λ b. b ≡ c → ⊥) (take k order))
-        (u : FormalSum (variables ring)) (same : IsSame ring.modulus.value u (cleared_all ring steps (column_of K c))) where
+        (u : FormalSum (variables ring)) (same : IsSame ring.modulus.value u (cleared_by_constants ring steps (column_of K c))) where
       u_is : IsSame ring.modulus.value u (through ring.modulus.value T (column_of K c))
       u_is = IsSame_trans same (h.alike (column_of K c))
 
@@ -141,7 +120,7 @@ module _ (ring : Ring) (pos : 0 < ring.modulus.value) (K : List (FormalSum (vari
           let p = ring.modulus.value in
           record {
             chosen = chosen_more None none;
-            alike = λ v. subst (λ z. IsSame p (cleared_all ring steps v) (through p z v)) (sym (pivots_more None)) (h.alike v);
+            alike = λ v. subst (λ z. IsSame p (cleared_by_constants ring steps v) (through p z v)) (sym (pivots_more None)) (h.alike v);
             rows_are = h.rows_are ∙ ap (map (λ (s : Pivot (variables ring)). s.row)) (sym (pivots_more None));
             count = length-set choices c None ∙ h.count;
           }
@@ -155,12 +134,13 @@ module _ (ring : Ring) (pos : 0 < ring.modulus.value) (K : List (FormalSum (vari
 
         alike_more :
             (v : FormalSum (variables ring))
-            → IsSame ring.modulus.value (cleared_all ring (steps ++ S ∷ []) v)
+            → IsSame ring.modulus.value (cleared_by_constants ring (steps ++ S ∷ []) v)
             (through ring.modulus.value (grown ring.modulus.value X c (column_of K c) T) v)
         alike_more v =
             let p = ring.modulus.value in
-            IsSame_trans (IsSame_of p _ _ (cleared_end ring steps S v ∙ ap (λ z. cleared p row inverse z (cleared_all ring steps v)) of_u))
-            (IsSame_trans (cleared_alike p pos row inverse u (through p T (column_of K c)) (cleared_all ring steps v) (through p T v) u_is (h.alike v))
+            IsSame_trans (IsSame_of p _ _ (cleared_end ring steps S v ∙ ap (λ z. cleared p row inverse z (cleared_by_constants ring steps v)) of_u))
+            (IsSame_trans
+            (cleared_alike p pos row inverse u (through p T (column_of K c)) (cleared_by_constants ring steps v) (through p T v) u_is (h.alike v))
             (IsSame_of p _ _ (sym (through_end p pos T _ v))))
 
         step_more : IsChoice ring.modulus.value X u → AreMet ring K order (k + 1) (steps ++ S ∷ []) (set choices c X)
@@ -168,7 +148,7 @@ module _ (ring : Ring) (pos : 0 < ring.modulus.value) (K : List (FormalSum (vari
             let p = ring.modulus.value in
             record {
               chosen = chosen_more X one;
-              alike = λ v. subst (λ z. IsSame p (cleared_all ring (steps ++ S ∷ []) v) (through p z v)) (sym (pivots_more X)) (alike_more v);
+              alike = λ v. subst (λ z. IsSame p (cleared_by_constants ring (steps ++ S ∷ []) v) (through p z v)) (sym (pivots_more X)) (alike_more v);
               rows_are = map-append (λ (s : Step). s.row) steps (S ∷ []) ∙ ap (λ z. z ++ row ∷ []) h.rows_are
                   ∙ sym (map-append (λ (s : Pivot (variables ring)). s.row) T (_ ∷ []))
                   ∙ ap (map (λ (s : Pivot (variables ring)). s.row)) (sym (pivots_more X));
@@ -177,7 +157,7 @@ module _ (ring : Ring) (pos : 0 < ring.modulus.value) (K : List (FormalSum (vari
 
     pub meet_more :
         k < length order → c ≡ get_or order k c → c < length K → Each (λ b. b ≡ c → ⊥) (take k order) → (column : Constants) → AreLeftOver ring column
-        → IsSame ring.modulus.value (entry_constants (variables ring) column.entries.items) (cleared_all ring steps (column_of K c))
+        → IsSame ring.modulus.value (entry_constants (variables ring) column.entries.items) (cleared_by_constants ring steps (column_of K c))
         → (steps' : List Step) (choices' : List (Option (ℕ × ℕ))) → IsColumnChosen ring c column steps steps' choices choices'
         → AreMet ring K order (k + 1) steps' choices'
     meet_more lt is inside others column over same steps' choices' (inl (none, es, ec)) =
@@ -191,11 +171,6 @@ module _ (ring : Ring) (pos : 0 < ring.modulus.value) (K : List (FormalSum (vari
         (least_chosen (variables ring) ring.modulus.value column.entries.items over.reduced over.coefficients row inverse residue least invert)))
 
 -- ---- the end
-indices_are : (kept : ℕ) (choices : List (Option (ℕ × ℕ))) → indices_by kept choices ≡ indices_of kept choices
-indices_are kept [] = refl
-indices_are kept (None ∷ choices) = indices_are (kept + 1) choices
-indices_are kept (Some a ∷ choices) = ap (λ z. kept ∷ z) (indices_are kept choices)
-
 module _ (ring : Ring) (pos : 0 < ring.modulus.value) (K : List (FormalSum (variables ring))) (rows degrees : List ℕ)
     (graded : AreHomogeneous ring.weights ring.modulus.value rows degrees K) where
   graded_at : (c : ℕ) → IsHomogeneous ring.weights ring.modulus.value rows (get_or degrees c 0) (column_of K c)
@@ -214,13 +189,6 @@ module _ (ring : Ring) (pos : 0 < ring.modulus.value) (K : List (FormalSum (vari
     abbrev order : List ℕ
     order = by_degree degrees (numbers_from 0 (length K))
 
-    -- the pivots by degree, and in the order of the columns
-    abbrev D : List (Pivot (variables ring))
-    D = pivots_after ring.modulus.value (column_of K) (choice_of choices) [] (take k order)
-
-    abbrev C : List (Pivot (variables ring))
-    C = pivots_after ring.modulus.value (column_of K) (choice_of choices) [] (numbers_from 0 (length K))
-
     all : take k order ≡ order
     all = take_all k order le
 
@@ -230,72 +198,32 @@ module _ (ring : Ring) (pos : 0 < ring.modulus.value) (K : List (FormalSum (vari
         (sorted_chosen p pos ring.weights rows degrees (column_of K) graded_at (choice_of choices) (numbers_from 0 (length K)) [] tt
         (subst (AreChosen p (column_of K) (choice_of choices) []) all h.chosen)).0
 
-    -- the rows of the pivots are those of the steps
-    off_steps : (q : ℕ) → Each (λ (s : Step). s.row ≡ q → ⊥) steps → AreOff q C
-    off_steps q off =
-        let p = ring.modulus.value in
-        let pivots : AreOff q D =
-        each_unmapped (λ r. r ≡ q → ⊥) (λ (s : Pivot (variables ring)). s.row) D
-        (subst (Each (λ r. r ≡ q → ⊥)) h.rows_are (each_mapped (λ r. r ≡ q → ⊥) (λ (s : Step). s.row) steps off))
-        in
-        let chosen = (off_choices p (column_of K) (choice_of choices) q [] (take k order) pivots).1 in
-        off_pivots p (column_of K) (choice_of choices) q [] (numbers_from 0 (length K)) tt
-        (each_unby _ degrees (numbers_from 0 (length K)) (subst (Each (λ c. IsOff q (choice_of choices c))) all chosen))
-
-    off_pivots_all : (q : ℕ) → AreOff q C → Each (λ (s : Step). s.row ≡ q → ⊥) steps
-    off_pivots_all q off =
-        let p = ring.modulus.value in
-        let chosen = (off_choices p (column_of K) (choice_of choices) q [] (numbers_from 0 (length K)) off).1 in
-        let pivots : AreOff q D =
-        off_pivots p (column_of K) (choice_of choices) q [] (take k order) tt
-        (subst (Each (λ c. IsOff q (choice_of choices c))) (sym all) (each_by _ degrees (numbers_from 0 (length K)) chosen))
-        in
-        each_unmapped (λ r. r ≡ q → ⊥) (λ (s : Step). s.row) steps
-        (subst (Each (λ r. r ≡ q → ⊥)) (sym h.rows_are) (each_mapped (λ r. r ≡ q → ⊥) (λ (s : Pivot (variables ring)). s.row) D pivots))
-
-    -- so those rows leave that have a number
-    module _ (numbers : List ℕ) (numbered : AreNumbered numbers 0 steps) (others : HaveNoOthers numbers steps) (few : length steps ≤ 18446744073709551615)
-        (out : List ℕ) (turned : AreTurned [] C out) where
-      out_stays : (q : ℕ) → get_or numbers q 18446744073709551615 ≡ 18446744073709551615 → place_after out q ≡ None → ⊥
-      out_stays q none gone =
-          let place = free_place C out q turned (off_steps q (numbered_off numbers 0 steps q numbered (omega (arith, few)) none)) in
-          true≢false (ap is_there (sym place.1 ∙ gone))
-
-      out_leaves : (q : ℕ) → (get_or numbers q 18446744073709551615 ≡ 18446744073709551615 → ⊥) → place_after out q ≡ None
-      out_leaves q some = go (place_after out q) refl
-        where
-          go : (place : Option ℕ) → place_after out q ≡ place → place ≡ None
-          go None e = refl
-          go (Some r) e =
-              let off : AreOff q C =
-              all_map _ _ C (λ (s : Pivot (variables ring)) none row. true≢false (ap is_there (sym e ∙ sym (ap (place_after out) row) ∙ none)))
-              (turned_none [] C out turned)
-              in
-              absurd (some (others q (off_pivots_all q off)))
-
-      rows_told : (leaving : Leaving) → LeaveNumbered numbers leaving → ArePlacesAfter out leaving
-      rows_told leaving l q =
-          l.turn q
-          ∙ same_places l.rows out (λ i z. out_leaves i (λ none. l.stay i none (l.turn i ∙ z)))
-          (λ i z. sym (l.turn i) ∙ l.leave i (λ none. out_stays i none z)) q
+    -- the rows of the steps are those of the pivots by degree
+    rows_by_degree :
+        map (λ (s : Step). s.row) steps
+        ≡ map (λ (s : Pivot (variables ring)). s.row) (pivots_after ring.modulus.value (column_of K) (choice_of choices) [] order)
+    rows_by_degree =
+        h.rows_are ∙ ap (λ z. map (λ (s : Pivot (variables ring)). s.row) (pivots_after ring.modulus.value (column_of K) (choice_of choices) [] z)) all
 
     pub all_met :
-        (chosen : Chosen) (numbers : List ℕ) → AreNumbered numbers 0 steps → HaveNoOthers numbers steps → length steps ≤ 18446744073709551615
+        (chosen : Chosen) (numbers : List ℕ) → AreNumbered numbers 0 (map (λ (s : Step). s.row) steps)
+        → HaveNoOthers numbers (map (λ (s : Step). s.row) steps) → length steps ≤ 18446744073709551615
         → LeaveNumbered numbers chosen.rows → ArePlacesAfter (indices_of 0 choices) chosen.indices → IsChosen ring K chosen
     all_met chosen numbers numbered others few leave indices =
         let all_steps = steps_of ring pos K choices h.count sorted in record {
           pivots = all_steps.pivots;
           firsts = all_steps.firsts;
           none = all_steps.none;
-          rows = rows_told numbers numbered others few _ all_steps.turned chosen.rows leave;
-          indices = subst (λ z. ArePlacesAfter z chosen.indices) (sym (all_steps.indices_are ∙ indices_are 0 choices)) indices;
+          rows = rows_told ring.modulus.value (column_of K) (choice_of choices) degrees (length K) (map (λ (s : Step). s.row) steps) rows_by_degree numbers
+              numbered others (subst (λ z. z ≤ 18446744073709551615) (sym (length-map steps (λ (s : Step). s.row))) few) _ all_steps.turned chosen.rows leave;
+          indices = subst (λ z. ArePlacesAfter z chosen.indices) (sym all_steps.indices_are) indices;
         }
 
 -- ---- the pass before the first column, and after one more
-pub start_over : (ring : Ring) (count : ℕ) (pass : Pass) → IsStart count pass → IsPassOver ring pass
+pub start_over : (ring : Ring) (count : ℕ) (pass : Pass) → IsPassStart count pass → IsPassOver ring pass
 start_over ring count pass h = record {
-  steps = subst (Each (IsStepOver ring)) (sym h.steps) tt;
-  numbered = subst (AreNumbered pass.table.numbers.items 0) (sym h.steps) tt;
+  steps = subst (Each (IsConstantStep ring)) (sym h.steps) tt;
+  numbered = subst (λ z. AreNumbered pass.table.numbers.items 0 (map (λ (s : Step). s.row) z)) (sym h.steps) tt;
   others = λ q none. ap (λ z. get_or z q 18446744073709551615) h.numbers ∙ get_or_past [] q 18446744073709551615 (omega arith);
   zeros = h.zeros;
 }

@@ -1,5 +1,5 @@
 -- The steps that a column meets, by the numbers of their rows
-use Rattle.std.proofs.Common.{List, [], ap, append-nil, arith, cond, drop, get_or, length, refl, suc, sym, zero, ℕ}
+use Rattle.std.proofs.Common.{List, [], ap, append-nil, arith, cond, drop, get_or, map, refl, suc, zero, ℕ}
 use Rattle.std.proofs.Common.{◌*◌, ◌++◌, ◌+◌, ◌-◌, ◌<◌, ◌∙◌, ◌∷◌, ◌≡◌, ◌≤◌}
 use Rattle.monomials.specs.Exponents.{unit}
 use Rattle.formal_sums.proofs.Linear.{linear_same}
@@ -9,9 +9,10 @@ use Rattle.minimal_laws.specs.Cancellation.{cleared, component}
 use Rattle.term_lists.specs.Rings.{variables}
 use Rattle.term_lists.specs.declared.ring.Ring.{Ring}
 use Rattle.constant_rows.specs.Rows.{entry_constants}
+use Rattle.column_passes.specs.Passing.{AreNumbered}
 use Rattle.column_passes.proofs.Clearings.{nat_eq-other}
-use Rattle.column_passes.proofs.Lists.{all_map, each_left, each_right}
-use Rattle.constant_passes.specs.Steps.{AreNumbered, HaveNoOthers, cleared_all}
+use Rattle.column_passes.proofs.Lists.{all_map}
+use Rattle.constant_passes.specs.Steps.{cleared_by_constants}
 use Rattle.constant_passes.specs.declared.clearing.Step.{Step}
 
 -- ---- the steps before the first one that has its row in the column take nothing away
@@ -30,9 +31,10 @@ cleared_other n p r s w entries h =
 
 module _ (ring : Ring) where
   pub skipped :
-      (numbers : List ℕ) (j k : ℕ) (steps : List Step) (entries : List (ℕ × ℕ)) → AreNumbered numbers j steps
+      (numbers : List ℕ) (j k : ℕ) (steps : List Step) (entries : List (ℕ × ℕ)) → AreNumbered numbers j (map (λ (s : Step). s.row) steps)
       → Each (λ e. j + k ≤ get_or numbers e.0 18446744073709551615) entries
-      → cleared_all ring steps (entry_constants (variables ring) entries) ≡ cleared_all ring (drop k steps) (entry_constants (variables ring) entries)
+      → cleared_by_constants ring steps (entry_constants (variables ring) entries)
+      ≡ cleared_by_constants ring (drop k steps) (entry_constants (variables ring) entries)
   skipped numbers j zero steps entries h le = refl
   skipped numbers j (suc k) [] entries h le = refl
   skipped numbers j (suc k) (s ∷ steps) entries h le =
@@ -44,42 +46,13 @@ module _ (ring : Ring) where
       let b = h.0 in
       omega (arith, l, a, b)) le
       in
-      ap (cleared_all ring steps) (cleared_other n ring.modulus.value s.row s.inverse (entry_constants n s.column.entries.items) entries other)
+      ap (cleared_by_constants ring steps) (cleared_other n ring.modulus.value s.row s.inverse (entry_constants n s.column.entries.items) entries other)
       ∙ skipped numbers (j + 1) k steps entries h.1 (all_map _ _ entries (λ (e : ℕ × ℕ) l. omega (arith, l)) le)
 
-  pub cleared_all_same :
+  pub cleared_by_constants_same :
       0 < ring.modulus.value → (steps : List Step) (v w : FormalSum (variables ring)) → IsSame ring.modulus.value v w
-      → IsSame ring.modulus.value (cleared_all ring steps v) (cleared_all ring steps w)
-  cleared_all_same pos [] v w e = e
-  cleared_all_same pos (s ∷ steps) v w e =
-      cleared_all_same pos steps _ _
+      → IsSame ring.modulus.value (cleared_by_constants ring steps v) (cleared_by_constants ring steps w)
+  cleared_by_constants_same pos [] v w e = e
+  cleared_by_constants_same pos (s ∷ steps) v w e =
+      cleared_by_constants_same pos steps _ _
       (linear_same pos (linear_cleared ring.modulus.value s.row s.inverse (entry_constants (variables ring) s.column.entries.items)) e)
-
--- ---- one step more
-pub numbered_end :
-    (old new : List ℕ) (i : ℕ) (steps : List Step) (s : Step) → AreNumbered old i steps → Each (λ t. t.row ≡ s.row → ⊥) steps
-    → ((q : ℕ) → (q ≡ s.row → ⊥) → get_or new q 18446744073709551615 ≡ get_or old q 18446744073709551615)
-    → get_or new s.row 18446744073709551615 ≡ i + length steps → AreNumbered new i (steps ++ s ∷ [])
-numbered_end old new i [] s h other same here = (here ∙ omega arith, tt)
-numbered_end old new i (t ∷ steps) s h other same here = (
-  same t.row other.0 ∙ h.0,
-  numbered_end old new (i + 1) steps s h.1 other.1 same (let e : i + length (t ∷ steps) ≡ (i + 1) + length steps = omega arith in here ∙ e),
-)
-
-pub others_end :
-    (old new : List ℕ) (steps : List Step) (s : Step) → HaveNoOthers old steps
-    → ((q : ℕ) → (q ≡ s.row → ⊥) → get_or new q 18446744073709551615 ≡ get_or old q 18446744073709551615) → HaveNoOthers new (steps ++ s ∷ [])
-others_end old new steps s h same q other =
-    same q (λ e. (each_right (λ (t : Step). t.row ≡ q → ⊥) steps (s ∷ []) other).0 (sym e))
-    ∙ h q (each_left (λ (t : Step). t.row ≡ q → ⊥) steps (s ∷ []) other)
-
--- a row without a number is of no step
-pub numbered_off :
-    (numbers : List ℕ) (i : ℕ) (steps : List Step) (q : ℕ) → AreNumbered numbers i steps → i + length steps ≤ 18446744073709551615
-    → get_or numbers q 18446744073709551615 ≡ 18446744073709551615 → Each (λ (s : Step). s.row ≡ q → ⊥) steps
-numbered_off numbers i [] q h le none = tt
-numbered_off numbers i (s ∷ steps) q h le none = (
-  (λ e. let a : get_or numbers s.row 18446744073709551615 ≡ get_or numbers q 18446744073709551615 = ap (λ z. get_or numbers z 18446744073709551615) e in
-      let b = h.0 in omega (arith, a, b, none, le)),
-  numbered_off numbers (i + 1) steps q h.1 (omega (arith, le)) none,
-)

@@ -8,16 +8,16 @@ use Rattle.term_lists.specs.declared.ring.Ring.{Ring}
 use Rattle.constant_rows.specs.Rows.{AreZeros, entry_constants}
 use Rattle.constant_rows.specs.declared.constants.Constants.{Constants}
 use Rattle.column_passes.specs.Constants.{HasNoConstants}
-use Rattle.column_passes.specs.Passing.{AreFirstSteps, Pivot, add_index, left_by_all}
+use Rattle.column_passes.specs.Passing.{AreFirstSteps, AreNumbered, HaveNoOthers, Pivot, left_by_all}
 use Rattle.column_passes.specs.Placing.{ArePlacesAfter, without_all}
-use Rattle.constant_passes.specs.Steps.{AreLeftOver, AreNumbered, HaveNoOthers, IsStepOver, cleared_all}
+use Rattle.constant_passes.specs.Steps.{AreLeftOver, IsConstantStep, cleared_by_constants}
 use Rattle.constant_passes.specs.declared.leaving.Chosen.{Chosen}
 use Rattle.constant_passes.specs.declared.choosing.Pass.{Pass}
 use Rattle.constant_passes.specs.declared.clearing.Step.{Step}
 
 -- the columns without the rows that leave in turn
-abbrev pub lowered : {n : ℕ} → List ℕ → List (FormalSum n) → List (FormalSum n)
-lowered rows F = map (λ v. without_all rows v) F
+abbrev pub columns_without_rows : {n : ℕ} → List ℕ → List (FormalSum n) → List (FormalSum n)
+columns_without_rows rows F = map (λ v. without_all rows v) F
 
 -- the steps by which the constants of these columns leave, each time the first one, with their rows and columns
 pub record IsChosen (ring : Ring) (F : List (FormalSum (variables ring))) (chosen : Chosen) : Type 0 where
@@ -43,31 +43,26 @@ IsColumnChosen ring c column steps steps' choices choices' =
 
 -- no step has the row of a constant that the steps leave of v
 abbrev pub AreFree : (ring : Ring) → List Step → FormalSum (variables ring) → Type 0
-AreFree ring steps v = (q : ℕ) → IsConstantAt ring.modulus.value (cleared_all ring steps v) q → Each (λ s. s.row ≡ q → ⊥) steps
+AreFree ring steps v = (q : ℕ) → IsConstantAt ring.modulus.value (cleared_by_constants ring steps v) q → Each (λ s. s.row ≡ q → ⊥) steps
 
 -- the column v with this number was cleared by the steps, and what is left of it makes the next step or nothing
-pub record IsMet (ring : Ring) (c : ℕ) (v : FormalSum (variables ring)) (old new : Pass) : Type 0 where
+pub record IsColumnMet (ring : Ring) (c : ℕ) (v : FormalSum (variables ring)) (old new : Pass) : Type 0 where
   pub column : Constants
   pub over : AreLeftOver ring column
-  pub left : IsSame ring.modulus.value (entry_constants (variables ring) column.entries.items) (cleared_all ring old.table.steps.items v)
+  pub left : IsSame ring.modulus.value (entry_constants (variables ring) column.entries.items) (cleared_by_constants ring old.table.steps.items v)
   pub chosen : IsColumnChosen ring c column old.table.steps.items new.table.steps.items old.choices.items new.choices.items
 
 -- ---- the pass
 -- its steps are numbered by their rows, and the sums are 0
 pub record IsPassOver (ring : Ring) (pass : Pass) : Type 0 where
-  pub steps : Each (IsStepOver ring) pass.table.steps.items
-  pub numbered : AreNumbered pass.table.numbers.items 0 pass.table.steps.items
-  pub others : HaveNoOthers pass.table.numbers.items pass.table.steps.items
+  pub steps : Each (IsConstantStep ring) pass.table.steps.items
+  pub numbered : AreNumbered pass.table.numbers.items 0 (map (λ s. s.row) pass.table.steps.items)
+  pub others : HaveNoOthers pass.table.numbers.items (map (λ s. s.row) pass.table.steps.items)
   pub zeros : AreZeros pass.rows.sums.items
 
 -- no step yet, and room for the choices of so many columns
-pub record IsStart (count : ℕ) (pass : Pass) : Type 0 where
+pub record IsPassStart (count : ℕ) (pass : Pass) : Type 0 where
   pub steps : pass.table.steps.items ≡ []
   pub numbers : pass.table.numbers.items ≡ []
   pub choices : length pass.choices.items ≡ count
   pub zeros : AreZeros pass.rows.sums.items
-
--- the numbers of the columns that leave, each by how many before it are kept
-abbrev pub indices_of : ℕ → List (Option (ℕ × ℕ)) → List ℕ
-indices_of kept [] = []
-indices_of kept (choice ∷ choices) = add_index choice kept (λ k. indices_of k choices)

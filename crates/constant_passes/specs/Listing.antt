@@ -11,6 +11,6 @@ abbrev pub constants_at : (n : ℕ) → List ℕ → List (CodeKey × ℕ) → F
 constants_at n rows terms = constant_part (without_all rows (sum_of n terms))
 
 -- the entry alone, or none
-abbrev pub listed : Option (ℕ × ℕ) → List (ℕ × ℕ)
-listed None = []
-listed (Some e) = e ∷ []
+abbrev pub entry_list : Option (ℕ × ℕ) → List (ℕ × ℕ)
+entry_list None = []
+entry_list (Some e) = e ∷ []

@@ -1,13 +1,13 @@
 // The rows and the columns that leave a map, by its constants alone.
-ghost use Rattle.std.specs.Prelude.{◌≡◌, ◌<◌, ◌++◌, ◌∷◌, [], List, ℕ, IfOk, OnOk, get_or, length};
+ghost use Rattle.std.specs.Prelude.{◌≡◌, ◌<◌, ◌++◌, ◌∷◌, [], List, ℕ, IfOk, OnOk, get_or, length, map};
 ghost use Rattle.formal_sums.specs.FormalSums.{Each};
 ghost use Rattle.term_lists.specs.Rings.{variables};
 ghost use Rattle.term_lists.specs.Vectors.{AreTermsOver, sums_of};
-ghost use Rattle.column_passes.specs.Passing.{AreGradedColumns};
+ghost use Rattle.column_passes.specs.Passing.{AreGradedColumns, AreNumbered, HaveNoOthers};
 ghost use Rattle.column_passes.specs.Placing.{ArePlacesAfter};
-ghost use Rattle.constant_passes.specs.Choosing.{AreFree, IsChosen, IsColumnChosen, IsLeastEntry, IsMet, IsPassOver, IsStart, lowered};
+ghost use Rattle.constant_passes.specs.Choosing.{AreFree, IsChosen, IsColumnChosen, IsColumnMet, IsLeastEntry, IsPassOver, IsPassStart, columns_without_rows};
 ghost use Rattle.constant_passes.specs.Listing.{constants_at};
-ghost use Rattle.constant_passes.specs.Steps.{AreLeftOver, AreNumbered, HaveNoOthers};
+ghost use Rattle.constant_passes.specs.Steps.{AreLeftOver};
 
 use crate::clearing::{Step, StepTable, left_over, push_step};
 use crate::leaving::{Chosen, finish};
@@ -52,7 +52,7 @@ fn no_choices(alloc: Global, count: usize) -> Result<Vec<Option<(u64, u32)>>, No
 
 // None of so many columns is met yet.
 fn start(alloc: Global, count: usize) -> Result<Pass, NoMemory>
-    ensures { IfOk result (IsStart count) }
+    ensures { IfOk result (IsPassStart count) }
 {
     let choices = no_choices(alloc, count)?;
     Ok(Pass {
@@ -102,12 +102,12 @@ fn choose(
 ) -> Result<(), NoMemory>
     requires column { AreLeftOver ring.now column }
     requires inside { number < length choices.old.items }
-    requires numbered { AreNumbered table.old.numbers.items 0 table.old.steps.items }
-    requires others { HaveNoOthers table.old.numbers.items table.old.steps.items }
+    requires numbered { AreNumbered table.old.numbers.items 0 (map (λ s. s.row) table.old.steps.items) }
+    requires others { HaveNoOthers table.old.numbers.items (map (λ s. s.row) table.old.steps.items) }
     requires free { Each (λ e. Each (λ s. s.row ≡ e.0 → ⊥) table.old.steps.items) column.entries.items }
     ensures chosen { OnOk result (IsColumnChosen ring.now number column table.old.steps.items table.new.steps.items choices.old.items choices.new.items) }
-    ensures numbered { OnOk result (AreNumbered table.new.numbers.items 0 table.new.steps.items) }
-    ensures others { OnOk result (HaveNoOthers table.new.numbers.items table.new.steps.items) }
+    ensures numbered { OnOk result (AreNumbered table.new.numbers.items 0 (map (λ s. s.row) table.new.steps.items)) }
+    ensures others { OnOk result (HaveNoOthers table.new.numbers.items (map (λ s. s.row) table.new.steps.items)) }
 {
     lawful_setting(ring);
     match least_entry(&column.entries) {
@@ -148,7 +148,7 @@ fn meet(
     requires free { (rows : List ℕ) → ArePlacesAfter rows leaving.now
         → AreFree ring.now pass.old.table.steps.items (constants_at (variables ring.now) rows terms.now) }
     ensures met { (rows : List ℕ) → ArePlacesAfter rows leaving.now
-        → OnOk result (IsMet ring.now number (constants_at (variables ring.now) rows terms.now) pass.old pass.new) }
+        → OnOk result (IsColumnMet ring.now number (constants_at (variables ring.now) rows terms.now) pass.old pass.new) }
     ensures pass { OnOk result (IsPassOver ring.now pass.new) }
 {
     let column = left_over(
@@ -185,9 +185,9 @@ pub fn chosen(
     requires terms { Each (AreTermsOver ring.now) columns.now }
     requires leaving { (rows : List ℕ) × ArePlacesAfter rows leaving.now }
     requires graded { (rows : List ℕ) → ArePlacesAfter rows leaving.now
-        → AreGradedColumns ring.now degrees.now (lowered rows (sums_of (variables ring.now) columns.now)) }
+        → AreGradedColumns ring.now degrees.now (columns_without_rows rows (sums_of (variables ring.now) columns.now)) }
     ensures { (rows : List ℕ) → ArePlacesAfter rows leaving.now
-        → IfOk result (IsChosen ring.now (lowered rows (sums_of (variables ring.now) columns.now))) }
+        → IfOk result (IsChosen ring.now (columns_without_rows rows (sums_of (variables ring.now) columns.now))) }
 {
     lawful_setting(ring);
     let mut pass = start(alloc, columns.len())?;

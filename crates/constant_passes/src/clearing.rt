@@ -1,13 +1,14 @@
 // Constants that left a map, and the constants of columns after them.
-ghost use Rattle.std.specs.Prelude.{◌≡◌, ◌<◌, ◌≤◌, ◌++◌, ◌∷◌, [], List, ℕ, IfOk, OnOk, get_or};
+ghost use Rattle.std.specs.Prelude.{◌≡◌, ◌<◌, ◌≤◌, ◌++◌, ◌∷◌, [], List, ℕ, IfOk, OnOk, get_or, map};
 ghost use Rattle.formal_sums.specs.FormalSums.{Each, IsSame};
 ghost use Rattle.minimal_laws.specs.Cancellation.{cleared};
 ghost use Rattle.term_lists.specs.Rings.{variables};
 ghost use Rattle.term_lists.specs.Vectors.{AreTermsOver};
 ghost use Rattle.constant_rows.specs.Rows.{AreRowSums, AreZeros, entry_constants, row_constants};
+ghost use Rattle.column_passes.specs.Passing.{AreNumbered, HaveNoOthers};
 ghost use Rattle.column_passes.specs.Placing.{ArePlacesAfter};
 ghost use Rattle.constant_passes.specs.Listing.{constants_at};
-ghost use Rattle.constant_passes.specs.Steps.{AreLeftOver, AreNumbered, HaveNoOthers, IsStepOver, cleared_all};
+ghost use Rattle.constant_passes.specs.Steps.{AreLeftOver, IsConstantStep, cleared_by_constants};
 
 use crate::listing::find_constants;
 use column_passes::Leaving;
@@ -90,7 +91,7 @@ fn first_step(numbers: &[u64], entries: &[(u32, u32)]) -> u64
 
 // Takes away the multiple of the step's column by which the sum in its row vanishes.
 fn clear_sums(ring: &Ring, step: &Step, rows: &mut RowSums) -> Result<(), NoMemory>
-    requires step { IsStepOver ring.now step.now }
+    requires step { IsConstantStep ring.now step.now }
     requires sums { AreRowSums rows.old.sums.items rows.old.touched.items }
     ensures sum { let n = variables ring.now in OnOk result (IsSame ring.now.modulus.value (row_constants n 0 rows.new.sums.items)
         (cleared ring.now.modulus.value step.now.row step.now.inverse (entry_constants n step.now.column.entries.items)
@@ -114,13 +115,13 @@ fn clear(
     found: &Constants,
     rows: &mut RowSums,
 ) -> Result<(), NoMemory>
-    requires steps { Each (IsStepOver ring.now) table.now.steps.items }
-    requires numbered { AreNumbered table.now.numbers.items 0 table.now.steps.items }
+    requires steps { Each (IsConstantStep ring.now) table.now.steps.items }
+    requires numbered { AreNumbered table.now.numbers.items 0 (map (λ s. s.row) table.now.steps.items) }
     requires below { Each (λ e. e.0 < found.now.width) found.now.entries.items }
     requires reduced { Each (λ e. e.1 < ring.now.modulus.value) found.now.entries.items }
     requires zeros { AreZeros rows.old.sums.items }
     ensures sum { let n = variables ring.now in OnOk result (IsSame ring.now.modulus.value (row_constants n 0 rows.new.sums.items)
-        (cleared_all ring.now table.now.steps.items (entry_constants n found.now.entries.items))) }
+        (cleared_by_constants ring.now table.now.steps.items (entry_constants n found.now.entries.items))) }
     ensures sums { OnOk result (AreRowSums rows.new.sums.items rows.new.touched.items) }
 {
     lawful_setting(ring);
@@ -143,13 +144,13 @@ pub(crate) fn left_over(
     found: &mut Constants,
     rows: &mut RowSums,
 ) -> Result<Constants, NoMemory>
-    requires steps { Each (IsStepOver ring.now) table.now.steps.items }
-    requires numbered { AreNumbered table.now.numbers.items 0 table.now.steps.items }
+    requires steps { Each (IsConstantStep ring.now) table.now.steps.items }
+    requires numbered { AreNumbered table.now.numbers.items 0 (map (λ s. s.row) table.now.steps.items) }
     requires terms { AreTermsOver ring.now terms.now }
     requires zeros { AreZeros rows.old.sums.items }
     ensures left { (places : List ℕ) → ArePlacesAfter places leaving.now → let n = variables ring.now in
         IfOk result (λ c. IsSame ring.now.modulus.value (entry_constants n c.entries.items)
-        (cleared_all ring.now table.now.steps.items (constants_at n places terms.now))) }
+        (cleared_by_constants ring.now table.now.steps.items (constants_at n places terms.now))) }
     ensures over { IfOk result (AreLeftOver ring.now) }
     ensures zeros { OnOk result (AreZeros rows.new.sums.items) }
 {
@@ -173,11 +174,11 @@ fn number_row(numbers: &mut Vec<u64>, row: u64, number: u64) -> Result<(), NoMem
 
 /// Puts the step behind the others; they have other rows.
 pub(crate) fn push_step(step: Step, table: &mut StepTable) -> Result<(), NoMemory>
-    requires numbered { AreNumbered table.old.numbers.items 0 table.old.steps.items }
-    requires others { HaveNoOthers table.old.numbers.items table.old.steps.items }
+    requires numbered { AreNumbered table.old.numbers.items 0 (map (λ s. s.row) table.old.steps.items) }
+    requires others { HaveNoOthers table.old.numbers.items (map (λ s. s.row) table.old.steps.items) }
     requires other { Each (λ s. s.row ≡ step.row → ⊥) table.old.steps.items }
-    ensures numbered { OnOk result (AreNumbered table.new.numbers.items 0 table.new.steps.items) }
-    ensures others { OnOk result (HaveNoOthers table.new.numbers.items table.new.steps.items) }
+    ensures numbered { OnOk result (AreNumbered table.new.numbers.items 0 (map (λ s. s.row) table.new.steps.items)) }
+    ensures others { OnOk result (HaveNoOthers table.new.numbers.items (map (λ s. s.row) table.new.steps.items)) }
     ensures steps { OnOk result (table.new.steps.items ≡ table.old.steps.items ++ step ∷ []) }
 {
     let number = table.steps.len() as u64;

@@ -1,8 +1,7 @@
 // What leaves a map after a pass.
 ghost use Rattle.std.specs.Prelude.{◌≡◌, IfOk};
-ghost use Rattle.column_passes.specs.Passing.{LeaveNumbered};
+ghost use Rattle.column_passes.specs.Passing.{LeaveNumbered, indices_of};
 ghost use Rattle.column_passes.specs.Placing.{ArePlacesAfter};
-ghost use Rattle.constant_passes.specs.Choosing.{indices_of};
 
 use column_passes::{Leaving, leaving_rows, push_place};
 use module_vectors::NoMemory;

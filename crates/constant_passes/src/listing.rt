@@ -5,7 +5,7 @@ ghost use Rattle.term_lists.specs.Rings.{variables};
 ghost use Rattle.term_lists.specs.Vectors.{AreTermsOver, IsMonomialOver};
 ghost use Rattle.constant_rows.specs.Rows.{entry_constants};
 ghost use Rattle.column_passes.specs.Placing.{ArePlacesAfter};
-ghost use Rattle.constant_passes.specs.Listing.{constants_at, listed};
+ghost use Rattle.constant_passes.specs.Listing.{constants_at, entry_list};
 
 use column_passes::{Leaving, place_of};
 use constant_rows::Constants;
@@ -22,7 +22,7 @@ fn constant_of(
 ) -> Result<Option<(u32, u32)>, NoMemory>
     requires { IsMonomialOver ring.now term.now.0.monomial }
     ensures constant { (rows : List ℕ) → ArePlacesAfter rows leaving.now → let n = variables ring.now in
-        IfOk result (λ found. constants_at n rows (term.now ∷ []) ≡ entry_constants n (listed found)) }
+        IfOk result (λ found. constants_at n rows (term.now ∷ []) ≡ entry_constants n (entry_list found)) }
     ensures residue { IfOk result (λ found. IfSome found (λ e. e.1 ≡ term.now.1)) }
 {
     let _ring = ring;
@@ -41,7 +41,7 @@ fn constant_of(
 
 // Puts the constant behind the others, if there is one.
 fn put_entry(entry: Option<(u32, u32)>, found: &mut Constants) -> Result<(), NoMemory>
-    ensures entries { OnOk result (found.new.entries.items ≡ found.old.entries.items ++ listed entry) }
+    ensures entries { OnOk result (found.new.entries.items ≡ found.old.entries.items ++ entry_list entry) }
     ensures wider { OnOk result (found.old.width ≤ found.new.width) }
     ensures below { OnOk result (IfSome entry (λ e. e.0 < found.new.width)) }
 {

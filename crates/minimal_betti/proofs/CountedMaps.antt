@@ -23,7 +23,7 @@ use Rattle.column_passes.specs.Passing.{AreGradedColumns, Pivot}
 use Rattle.column_passes.specs.Placing.{ArePlacesAfter, all_removed}
 use Rattle.column_passes.specs.declared.placing.Leaving.{Leaving}
 use Rattle.column_passes.proofs.Lists.{drop_item, drop_none}
-use Rattle.constant_passes.specs.Choosing.{lowered}
+use Rattle.constant_passes.specs.Choosing.{columns_without_rows}
 use Rattle.constant_passes.specs.declared.leaving.Chosen.{Chosen}
 use Rattle.minimal_betti.specs.CountedMaps.{IsMapCounted}
 use Rattle.minimal_betti.specs.Growing.{IsDone, IsTableTo}
@@ -200,7 +200,7 @@ module _ (ring : Ring) (C : GradedMaps (variables ring)) (m : Map) (tail : List 
   -- the next map's columns are homogeneous
   pub counted_graded :
       (rows : List ℕ) → ArePlacesAfter rows leaving
-      → AreGradedColumns ring (degrees_of ring m.row_degrees.items m.columns) (lowered rows (sums_of (variables ring) m.columns))
+      → AreGradedColumns ring (degrees_of ring m.row_degrees.items m.columns) (columns_without_rows rows (sums_of (variables ring) m.columns))
   counted_graded rows told =
       subst (AreGradedColumns ring (degrees_of ring m.row_degrees.items m.columns)) (lowered_alike (variables ring) h.rows rows leaving m.columns h.told told)
       (stepped_graded ring C h.places h.maps (lowered_map h.rows (graded_own ring m)) tail met)

@@ -13,7 +13,7 @@ use Rattle.column_passes.specs.Placing.{ArePlacesAfter, all_removed, placed, put
 use Rattle.column_passes.specs.declared.placing.Leaving.{Leaving}
 use Rattle.column_passes.proofs.Lists.{all_append}
 use Rattle.column_passes.proofs.Places.{left_sum, placed_is}
-use Rattle.constant_passes.specs.Choosing.{lowered}
+use Rattle.constant_passes.specs.Choosing.{columns_without_rows}
 use Rattle.minimal_betti.specs.Carried.{LeadsTo}
 use Rattle.minimal_betti.proofs.Reaching.{leads_itself, leads_on}
 use Rattle.minimal_betti.proofs.Stepping.{any_steps, lose_all, lower_all, lower_all_next, lower_all_none, none_all_lost}
@@ -29,7 +29,7 @@ placed_alike rows others leaving (t ∷ v) a b =
     ap₂ (λ place z. put_at place t z) (sym (a t.0.position) ∙ b t.0.position) (placed_alike rows others leaving v a b)
 
 pub lowered_alike : (n : ℕ) (rows others : List ℕ) (leaving : Leaving) (F : List Terms) → ArePlacesAfter rows leaving → ArePlacesAfter others leaving
-    → lowered rows (sums_of n F) ≡ lowered others (sums_of n F)
+    → columns_without_rows rows (sums_of n F) ≡ columns_without_rows others (sums_of n F)
 lowered_alike n rows others leaving [] a b = refl
 lowered_alike n rows others leaving (v ∷ F) a b =
     ap₂ ◌∷◌
@@ -40,7 +40,7 @@ lowered_alike n rows others leaving (v ∷ F) a b =
 -- ---- maps
 -- a map without rows
 abbrev pub lowered_map : {n : ℕ} → List ℕ → GradedMap n → GradedMap n
-lowered_map rows M = record { columns = lowered rows M.columns; degrees = M.degrees }
+lowered_map rows M = record { columns = columns_without_rows rows M.columns; degrees = M.degrees }
 
 -- a map after steps
 abbrev pub left_map : (ring : Ring) → GradedMap (variables ring) → List (Pivot (variables ring)) → GradedMap (variables ring)

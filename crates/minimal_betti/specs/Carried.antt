@@ -9,7 +9,7 @@ use Rattle.term_lists.specs.declared.key.Key.{Key as CodeKey}
 use Rattle.term_lists.specs.declared.ring.Ring.{Ring}
 use Rattle.resolution_maps.specs.Resolved.{degrees_of}
 use Rattle.resolution_maps.specs.declared.maps.Map.{Map}
-use Rattle.column_passes.specs.ConstantColumns.{AreColumnImages}
+use Rattle.column_passes.specs.ColumnImages.{AreColumnImages}
 use Rattle.minimal_betti.specs.Minimising.{IsCancellationReached}
 use Rattle.minimal_betti.specs.declared.carried.Carried.{Carried}
 

@@ -9,7 +9,7 @@ ghost use Rattle.term_lists.specs.Vectors.{AreTermsOver, sums_of};
 ghost use Rattle.resolution_maps.specs.Resolved.{degrees_of};
 ghost use Rattle.column_passes.specs.Passing.{AreGradedColumns};
 ghost use Rattle.column_passes.specs.Placing.{ArePlacesAfter};
-ghost use Rattle.constant_passes.specs.Choosing.{lowered};
+ghost use Rattle.constant_passes.specs.Choosing.{columns_without_rows};
 ghost use Rattle.minimal_betti.specs.CountedMaps.{IsMapCounted};
 ghost use Rattle.minimal_betti.specs.Graded.{IsGradedResolution, graded_of};
 ghost use Rattle.minimal_betti.specs.Tables.{IsBettiTable};
@@ -37,7 +37,7 @@ fn count_map(
     requires leaving { (rows : List ℕ) × ArePlacesAfter rows last.old.indices }
     requires graded { (rows : List ℕ) → ArePlacesAfter rows last.old.indices
         → AreGradedColumns ring.now (degrees_of ring.now map.now.row_degrees.items map.now.columns)
-        (lowered rows (sums_of (variables ring.now) map.now.columns)) }
+        (columns_without_rows rows (sums_of (variables ring.now) map.now.columns)) }
     ensures { (rows : List ℕ) → ArePlacesAfter rows last.old.indices
         → IfOk result (λ left. IsMapCounted ring.now rows map.now step former.items last.new entries.old.items entries.new.items left.items) }
 {

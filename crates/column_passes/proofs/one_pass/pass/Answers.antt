@@ -1,4 +1,4 @@
-use Rattle.std.proofs.Common.{Err, List, Ok, Result, [], ap, arith, get_or, length, subst, sym, ℕ, ◌≤◌, ◌∙◌}
+use Rattle.std.proofs.Common.{Err, List, Ok, Result, [], ap, arith, get_or, length, map, subst, sym, ℕ, ◌≤◌, ◌∙◌}
 use Rattle.std.specs.Prelude.{IfOk}
 use Rattle.std.proofs.lemmas.List.{get_or_default, get_or_past}
 use Rattle.term_lists.proofs.Scaling.{Each_at}
@@ -7,6 +7,7 @@ use Rattle.term_lists.specs.Vectors.{IsVectorOver, StandsFor, sum_of}
 use Rattle.vector_division.proofs.Members.{sums_at}
 use Rattle.column_passes.specs.Passing.{AreFinished, AreNumbered, IsPassed, LeaveNumbered, cleared_all, indices_in_turn}
 use Rattle.column_passes.specs.Placing.{ArePlacesAfter}
+use Rattle.column_passes.specs.declared.steps.Step.{Step}
 use Rattle.column_passes.proofs.ByDegree.{order_is}
 use Rattle.column_passes.proofs.Passes.{AreMet, free_here, meet_more, met_start, number_inside, others_first, pass_all}
 use Rattle.column_passes.proofs.one_pass.pass.Goals as goal
@@ -15,7 +16,7 @@ pub loop-k-init : goal.loop-k-init
 loop-k-init c = record {
   met = met_start c.args.ring.now c.args.columns.now c.in_ok-order.order.items c.new.result.items c.in_ok-met.met.items c.new.ensures.items
       c.in_ok-met.ensures.count c.in_ok-met.ensures.none;
-  numbered = subst (AreNumbered c.new-2.result.items 0) (sym c.new.ensures.items) tt;
+  numbered = subst (λ z. AreNumbered c.new-2.result.items 0 (map (λ (s : Step). s.row) z)) (sym c.new.ensures.items) tt;
   others = λ q none. ap (λ z. get_or z q 18446744073709551615) c.new-2.ensures.items ∙ get_or_past [] q 18446744073709551615 (omega arith);
 }
 

@@ -5,17 +5,18 @@ use Rattle.formal_sums.specs.FormalSums.{IsSame}
 use Rattle.term_lists.proofs.Scaling.{Each_at}
 use Rattle.term_lists.specs.Rings.{variables}
 use Rattle.term_lists.specs.Vectors.{AreTermsOver, sums_of}
-use Rattle.column_passes.specs.Passing.{LeaveNumbered}
+use Rattle.column_passes.specs.Passing.{LeaveNumbered, indices_of}
 use Rattle.column_passes.specs.Placing.{ArePlacesAfter}
 use Rattle.column_passes.specs.Sorting.{numbers_from}
 use Rattle.column_passes.proofs.ByDegree.{by_degree, order_is}
+use Rattle.column_passes.proofs.Passes.{number_inside, others_first}
 use Rattle.constant_rows.specs.Rows.{entry_constants}
-use Rattle.constant_passes.specs.Choosing.{AreFree, IsChosen, indices_of, lowered}
+use Rattle.constant_passes.specs.Choosing.{AreFree, IsChosen, columns_without_rows}
 use Rattle.constant_passes.specs.Listing.{constants_at}
-use Rattle.constant_passes.specs.Steps.{cleared_all}
+use Rattle.constant_passes.specs.Steps.{cleared_by_constants}
 use Rattle.constant_passes.proofs.Lifting.{chosen_is, parts_graded}
 use Rattle.constant_passes.proofs.Listings.{column_is, columns_count}
-use Rattle.constant_passes.proofs.Meeting.{AreMet, all_met, free_here, if_two, meet_more, met_start, number_inside, others_first, start_over}
+use Rattle.constant_passes.proofs.Meeting.{AreMet, all_met, free_here, if_two, meet_more, met_start, start_over}
 use Rattle.constant_passes.proofs.choosing.chosen.Goals as goal
 
 pub loop-k-init : goal.loop-k-init
@@ -23,7 +24,7 @@ loop-k-init c =
     let ring = c.args.ring.now in
     let columns = c.args.columns.now in
     record {
-      met = λ rows h. met_start ring (map constant_part (lowered rows (sums_of (variables ring) columns))) c.in_ok-order.order.items
+      met = λ rows h. met_start ring (map constant_part (columns_without_rows rows (sums_of (variables ring) columns))) c.in_ok-order.order.items
           c.in_ok-pass.pass.table.steps.items c.in_ok-pass.pass.choices.items c.in_ok-pass.ensures.steps
           (c.in_ok-pass.ensures.choices ∙ sym (columns_count (variables ring) rows columns));
       over = start_over ring (length columns) c.in_ok-pass.pass c.in_ok-pass.ensures;
@@ -62,7 +63,7 @@ meet-requires-clause-free c rows h =
     let above : 1 < ring.modulus.value = (c.lawful_setting.ensures 0).domain.above_one in
     let columns = c.args.columns.now in
     let i = c.index-number.result.now in
-    let K = map constant_part (lowered rows (sums_of n columns)) in
+    let K = map constant_part (columns_without_rows rows (sums_of n columns)) in
     let steps = c.loop-k.pass.table.steps.items in
     subst (AreFree ring steps) (column_is n rows columns i ∙ sym (ap (constants_at n rows) c.terms_at-terms.ensures))
     (free_here ring (omega (arith, above)) K c.in_ok-order.order.items c.loop-k.k steps c.loop-k.pass.choices.items (c.loop-k.invariant.met rows h) i)
@@ -83,12 +84,12 @@ loop-k-preserved c =
     let first = others_first degrees (length columns) order k i c.in_ok-order.ensures (omega arith) c.index-number.ensures in
     record {
       met = λ rows h.
-          let K = map constant_part (lowered rows (sums_of n columns)) in
+          let K = map constant_part (columns_without_rows rows (sums_of n columns)) in
           let m = c.in_ok-meet.ensures.met rows h in
           let is = ap (constants_at n rows) c.terms_at-terms.ensures ∙ sym (column_is n rows columns i) in
           meet_more ring (omega (arith, above)) K order k steps c.loop-k.pass.choices.items (c.loop-k.invariant.met rows h) i (omega arith)
           c.index-number.ensures (subst (λ z. i < z) (sym (columns_count n rows columns)) inside) first m.column m.over
-          (subst (λ z. IsSame p (entry_constants n m.column.entries.items) (cleared_all ring steps z)) is m.left)
+          (subst (λ z. IsSame p (entry_constants n m.column.entries.items) (cleared_by_constants ring steps z)) is m.left)
           c.meet.new.pass.table.steps.items c.meet.new.pass.choices.items m.chosen;
       over = c.in_ok-meet.ensures.pass;
     }
@@ -103,7 +104,7 @@ returns c rows h =
     let order = c.in_ok-order.order.items in
     let k = c.loop-k.k in
     let pass = c.loop-k.pass in
-    let F = lowered rows (sums_of n columns) in
+    let F = columns_without_rows rows (sums_of n columns) in
     let K = map constant_part F in
     let graded = c.requires.graded rows h in
     let le : length order ≤ k = omega arith in

@@ -1,7 +1,9 @@
+use Rattle.std.proofs.Common.{map}
+use Rattle.column_passes.specs.Passing.{AreNumbered, HaveNoOthers}
 use Rattle.column_passes.proofs.Clearings.{on_ok}
 use Rattle.constant_passes.specs.Choosing.{IsColumnChosen}
 use Rattle.constant_passes.specs.Listing.{constants_at}
-use Rattle.constant_passes.specs.Steps.{AreNumbered, HaveNoOthers}
+use Rattle.constant_passes.specs.declared.clearing.Step.{Step}
 use Rattle.constant_passes.proofs.Entries.{free_entries, steps_over}
 use Rattle.constant_passes.proofs.Meeting.{on_three}
 use Rattle.term_lists.specs.Rings.{variables}
@@ -36,8 +38,8 @@ returns-clause-pass c =
     let new = c.choose.new.table.steps.items in
     let numbers = c.choose.new.table.numbers.items in
     let choices = c.args.pass.now.choices.items in
-    on_three c.choose.result (IsColumnChosen ring c.args.number column steps new choices c.choose.new.choices.items) (AreNumbered numbers 0 new)
-    (HaveNoOthers numbers new) _
+    on_three c.choose.result (IsColumnChosen ring c.args.number column steps new choices c.choose.new.choices.items)
+    (AreNumbered numbers 0 (map (λ (s : Step). s.row) new)) (HaveNoOthers numbers (map (λ (s : Step). s.row) new)) _
     (λ chosen numbered others. record {
       steps = steps_over ring column c.in_ok-column.ensures.over c.args.number steps new choices c.choose.new.choices.items c.requires.pass.steps chosen;
       numbered = numbered;

@@ -4,7 +4,7 @@ use Rattle.term_lists.proofs.Scaling.{Each_at}
 use Rattle.term_lists.specs.Rings.{variables}
 use Rattle.constant_rows.proofs.Adding.{zero_sums}
 use Rattle.constant_rows.specs.Rows.{entry_constants, row_constants}
-use Rattle.constant_passes.specs.Steps.{IsStepOver, cleared_all}
+use Rattle.constant_passes.specs.Steps.{IsConstantStep, cleared_by_constants}
 use Rattle.constant_passes.proofs.Clearings.{rows_end, rows_start, rows_step}
 use Rattle.constant_passes.proofs.clearing.clear.Goals as goal
 
@@ -35,14 +35,14 @@ loop-k-preserved c =
     let steps = c.args.table.now.steps.items in
     record {
       kept = c.in_ok-clear_sums.ensures.sums;
-      sum = rows_step ring steps (omega (arith, above)) (cleared_all ring steps (entry_constants n c.args.found.now.entries.items)) c.loop-k.k
+      sum = rows_step ring steps (omega (arith, above)) (cleared_by_constants ring steps (entry_constants n c.args.found.now.entries.items)) c.loop-k.k
           c.index.result.now (row_constants n 0 c.loop-k.rows.sums.items) (row_constants n 0 c.clear_sums.new.rows.sums.items) (omega arith)
           c.index.ensures c.in_ok-clear_sums.ensures.sum c.loop-k.invariant.sum;
     }
 
 pub clear_sums-requires-clause-step : goal.clear_sums-requires-clause-step
 clear_sums-requires-clause-step c =
-    Each_at (IsStepOver c.args.ring.now) c.args.table.now.steps.items c.loop-k.k c.index.result.now c.requires.steps (omega arith) c.index.ensures
+    Each_at (IsConstantStep c.args.ring.now) c.args.table.now.steps.items c.loop-k.k c.index.result.now c.requires.steps (omega arith) c.index.ensures
 
 pub returns-clause-sum : goal.returns-clause-sum
 returns-clause-sum c =
@@ -50,5 +50,5 @@ returns-clause-sum c =
     let above : 1 < ring.modulus.value = (c.lawful_setting.ensures 0).domain.above_one in
     let n = variables ring in
     let steps = c.args.table.now.steps.items in
-    rows_end ring steps (omega (arith, above)) (cleared_all ring steps (entry_constants n c.args.found.now.entries.items)) c.loop-k.k
+    rows_end ring steps (omega (arith, above)) (cleared_by_constants ring steps (entry_constants n c.args.found.now.entries.items)) c.loop-k.k
     (row_constants n 0 c.loop-k.rows.sums.items) (omega arith) c.loop-k.invariant.sum
