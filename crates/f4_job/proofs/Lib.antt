@@ -6,5 +6,5 @@ pub mod Represented
 pub mod JobParts
 pub mod MadeRows
 pub mod Outcomes
-pub mod Unranked
+pub mod Placing
 pub mod NeededPairs

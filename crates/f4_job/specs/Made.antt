@@ -1,5 +1,5 @@
 -- A row of a matrix as a row of an outcome
-use Rattle.std.specs.Prelude.{List, [], get_or, map, ⊤, ℕ, ◌∷◌, ◌≡◌}
+use Rattle.std.specs.Prelude.{List, None, Option, Some, [], get_or, map, ⊤, ℕ, ◌∷◌, ◌≡◌}
 use Rattle.formal_sums.specs.FormalSums.{Each}
 use Rattle.monomial_orders.specs.Kept.{IsWeighed}
 use Rattle.term_lists.specs.Rings.{variables}
@@ -26,13 +26,11 @@ source_part ps e = record { index = (kept_at ps e.0).0; residue = e.1; monomial 
 abbrev pub source_parts : List KeptProduct → List Entry → List ScaledProduct
 source_parts ps sources = map (λ e. source_part ps e) sources
 
--- a source behind the rank of its product
-abbrev pub RankedSource : Type 0
-RankedSource = ℕ × ℕ × ℕ
-
--- the source without the rank
-abbrev pub unranked : RankedSource → Entry
-unranked s = (s.1, s.2)
+-- the sources that stand at places, in their order
+abbrev pub placed_entries : List (Option Entry) → List Entry
+placed_entries [] = []
+placed_entries (None ∷ slots) = placed_entries slots
+placed_entries (Some s ∷ slots) = s ∷ placed_entries slots
 
 -- the row has this vector, and the products that its sources name
 pub record IsMadeRow (ring : Ring) (columns : List CodeKey) (ps : List KeptProduct) (r : RowShown) (row : CodeReduct) : Type 0 where

@@ -6,7 +6,7 @@ ghost use Rattle.vector_division.specs.Reductions.{term_of};
 ghost use Rattle.row_matrix.specs.Rows.{AreKeys, Descend, IsRow};
 ghost use Rattle.f4_job.specs.Made.{AreMadeRows, AreWeighedProducts, IsMadeRow, entry_term, source_parts};
 
-use crate::ranking::{ranks_of, sorted_sources};
+use crate::ranking::{Ranks, ranks_of, sorted_sources};
 use member_products::Reduct;
 use module_vectors::{Key, NoMemory, Ring, Vect};
 use monomial_orders::Mono;
@@ -52,14 +52,14 @@ fn source_terms(
     Ok(terms)
 }
 
-// The row of an outcome that this row of a matrix is. Its sources are taken by these ranks of the products, so that their
+// The row of an outcome that this row of a matrix is. Its sources are taken by these places of the products, so that their
 // sum is in order from the start.
 fn make_row(
     alloc: Global,
     ring: &Ring,
     columns: &[Key],
     products: &[(u64, Mono)],
-    ranks: &[u32],
+    ranks: &Ranks,
     row: &MatrixRow,
 ) -> Result<Reduct, NoMemory>
     requires columns { AreKeys (variables ring.now) ring.now.weights columns.now }
