@@ -170,6 +170,9 @@ pub fn columns_without(
     requires vectors { AreVectorsOver ring.now (ring_comparison ring.now) columns }
     ensures { (rows : List ℕ) → ArePlacesAfter rows leaving.now → IfOk result (AreWithout ring.now rows columns) }
 {
+    if leaving.count == 0 {
+        return Ok(columns);
+    }
     let mut without = Vec::with_capacity(alloc, columns.len())?;
     let mut rest = VecDeque::from_vec(columns.into_vec());
     while let Some(v) = rest.pop_front() {

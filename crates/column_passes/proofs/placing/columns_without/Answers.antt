@@ -1,7 +1,10 @@
 use Rattle.std.proofs.Common.{[], rules, subst, sym, ◌∙◌, ◌≡◌}
+use Rattle.std.proofs.lemmas.List.{map-id}
 use Rattle.term_lists.specs.Rings.{ring_comparison, variables}
-use Rattle.term_lists.specs.Vectors.{AreVectorsOver}
+use Rattle.term_lists.specs.Vectors.{AreVectorsOver, sums_of}
 use Rattle.column_passes.proofs.Columns.{columns_done, columns_more, columns_start, vectors_pushed}
+use Rattle.column_passes.proofs.Places.{none_leave}
+use Rattle.column_passes.specs.Placing.{AreWithout}
 use Rattle.column_passes.proofs.placing.columns_without.Goals as goal
 
 pub loop-v-init : goal.loop-v-init
@@ -43,3 +46,12 @@ returns c = λ rows h.
 
 pub placed_vector-requires-clause-leaving : goal.placed_vector-requires-clause-leaving
 placed_vector-requires-clause-leaving c = c.requires.leaving
+
+pub returns-then-leaving-eq0 : goal.returns-then-leaving-eq0
+returns-then-leaving-eq0 c = λ rows h.
+    let ring = c.args.ring.now in
+    let none : rows ≡ [] = none_leave rows c.args.leaving.now h c.if-leaving-eq0.true in
+    subst (λ rs. AreWithout ring rs c.args.columns c.args.columns) (sym none) record {
+      same = sym (map-id (sums_of (variables ring) c.args.columns));
+      vectors = c.requires.vectors;
+    }
