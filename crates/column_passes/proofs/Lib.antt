@@ -9,6 +9,7 @@ pub mod Lists
 pub mod Lowering
 pub mod Numbering
 pub mod Passes
+pub mod Permuted
 pub mod Places
 pub mod Reordering
 pub mod RowsTold

@@ -204,13 +204,3 @@ pub fn vector_without(ring: &Ring, row: u64, v: Vect) -> Vect
     lower_terms(row, &mut terms);
     Vect::from_ordered(ring, terms)
 }
-
-/// The same vector in the ring's own order.
-pub fn in_own_order(alloc: Global, ring: &Ring, v: &Vect) -> Result<Vect, NoMemory>
-    requires { AreTermsOver ring.now v.now }
-    ensures vector { IfOk result (IsVectorOver ring.now (ring_comparison ring.now)) }
-    ensures sum { IfOk result (λ u. StandsFor ring.now u (sum_of (variables ring.now) v.now)) }
-{
-    let copy = v.try_copy(alloc)?;
-    Vect::from_terms(alloc, ring, copy.into_terms())
-}

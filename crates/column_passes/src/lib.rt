@@ -7,13 +7,15 @@
 mod clearing;
 mod constants;
 mod one_pass;
+mod own_order;
 mod placing;
 mod sorting;
 mod steps;
 
-pub use clearing::{cleared_vector, in_own_order, vector_without};
+pub use clearing::{cleared_vector, vector_without};
 pub use constants::{Constant, first_constant};
 pub use one_pass::{Passed, leaving_rows, pass};
+pub use own_order::in_own_order;
 pub use placing::{
     Leaving, columns_without, kept_items, leaves, none_leaving, one_leaving, place_of, push_place,
 };

@@ -115,6 +115,17 @@ fn columns_by(
     Ok(Some(next))
 }
 
+// About how many keys get numbers: as many as the products have terms with which these columns start.
+fn start_terms(columns: &[Vect], keys: &[Key]) -> usize
+    requires { Each (λ k. k.position < length columns.now) keys.now }
+{
+    let mut count: usize = 0;
+    for key in keys {
+        count = count.saturating_add(columns[key.position as usize].terms().len());
+    }
+    count
+}
+
 // The columns with these leads; none where a test fails.
 fn made_columns<F: Frame>(
     alloc: Global,
@@ -141,7 +152,7 @@ fn made_columns<F: Frame>(
         return Ok(Some(Vec::new(alloc)));
     }
     let hashes = column_hashes(alloc, columns)?;
-    let mut numbers = KeyTable::new(alloc)?;
+    let mut numbers = KeyTable::with_room(alloc, start_terms(columns, keys))?;
     let mut starts = start_rows(alloc, ring, columns, &hashes, keys, &mut numbers)?;
     let mut free = Vec::with_capacity(alloc, numbers.len())?;
     let mut products = all_products(

@@ -1,4 +1,4 @@
-use Rattle.std.proofs.Common.{arith, false, get_or, length, subst, subst₂, sym, ℕ, ◌+◌, ◌<◌, ◌≡◌, ◌≤◌}
+use Rattle.std.proofs.Common.{arith, get_or, length, subst, subst₂, sym, ℕ, ◌+◌, ◌<◌, ◌≡◌, ◌≤◌}
 use Rattle.std.specs.Prelude.{Vec}
 use Rattle.std.specs.Global.{Global}
 use Rattle.schreyer_resolution.proofs.FreeRows.{dropping_end, dropping_gone, dropping_kept, dropping_start}
