@@ -34,11 +34,11 @@ IsToldKey key = let n = length key.monomial.exponents in FitsDigits n key.positi
 abbrev pub AreTold : List Key → Type 0
 AreTold keys = Each IsToldKey keys
 
--- the hashes tell the keys and the products of the monomial with keys within the bounds
-pub record AreToldWith (keys : List Key) (t : Monomial) (h : HashesShown) : Type 0 where
+-- the hashes tell the keys and the products of the monomial with keys up to this position and degree
+pub record AreToldWith (keys : List Key) (t : Monomial) (position degree : ℕ) : Type 0 where
   pub told : AreTold keys
-  pub position : FitsDigits (length t.exponents) h.position
-  pub degree : t.degree + h.degree < digit_base (length t.exponents)
+  pub fits : FitsDigits (length t.exponents) position
+  pub low : t.degree + degree < digit_base (length t.exponents)
   pub exponents : (k : ℕ) → get_or t.exponents k 0 ≤ t.degree
 
 -- a key with the hash of the product is the product, which is not of too great a degree

@@ -404,18 +404,15 @@ impl KeyTable {
         Ok(i)
     }
 
-    /// Do hashes tell all these keys and the products of the monomial with keys that have these hashes? Then a key with a
+    /// Do hashes tell all these keys and the products of the monomial with keys of no greater position and degree? Then a key with a
     /// product's hash is the product.
-    pub(crate) fn tells(&self, t: &Mono, hashes: &TermHashes) -> bool
-        ensures { IsTrue result → AreToldWith self.now t.now hashes.now }
+    pub fn tells(&self, t: &Mono, position: u64, degree: u128) -> bool
+        requires { degree < 4294967296 }
+        ensures { IsTrue result → AreToldWith self.now t.now position degree }
     {
         t.bounds();
         if self.told {
-            return is_told(
-                hashes.position(),
-                t.degree() + hashes.degree(),
-                t.variables(),
-            );
+            return is_told(position, t.degree() + degree, t.variables());
         }
         false
     }
@@ -502,5 +499,34 @@ impl KeyTable {
             Ok(i) => Ok(i),
             Err(_) => Err(MonoStop::Memory),
         }
+    }
+
+    /// The same where hashes may tell the product, as `tells` has it: then no key is compared.
+    pub fn number_of_told_product(
+        &mut self,
+        alloc: Global,
+        told: bool,
+        t: &Mono,
+        added: u64,
+        key: &Key,
+        hash: u64,
+    ) -> Result<usize, MonoStop>
+        requires variables { length t.now.exponents ≡ length key.now.monomial.exponents }
+        requires told { told ≡ true → TellsProduct self.old t.now key.now }
+        requires added { added ≡ factor_hash t.now }
+        requires hash { hash ≡ hash_of key.now }
+        ensures ok { IfOk result (IsNumbered self.old self.new (key_product t.now key.now)) }
+        ensures small { OnOk result (t.now.degree + key.now.monomial.degree ≤ 65535) }
+        ensures err { OnErr result (self.new ≡ self.old) }
+        ensures stop { IfErr result (StopsAbove (t.now.degree + key.now.monomial.degree)) }
+    {
+        if told {
+            let sum = hash.wrapping_add(added);
+            let found = find_hash(&self.hashes, &self.earlier, &self.last, sum);
+            if let Some(i) = found {
+                return Ok(i);
+            }
+        }
+        self.number_of_product(alloc, t, added, key, hash)
     }
 }

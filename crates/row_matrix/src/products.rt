@@ -85,7 +85,7 @@ pub fn product_row_in(
     ensures stop { IfErr result (ProductStops t.now v.now) }
 {
     let added = hash_of_factor(t);
-    let told = keys.tells(t, hashes);
+    let told = keys.tells(t, hashes.position(), hashes.degree());
     let hashes = hashes.hashes();
     let mut entries = room;
     entries.clear();

@@ -20,7 +20,7 @@ push_known-entries-requires-clause-told c = λ z.
     let t = c.args.t.now in
     let w = c.requires.weighed in
     let inv = c.loop-hashes.invariant in
-    tells_products (length t.exponents) w.0 c.loop-hashes.keys t c.args.hashes.now c.args.v.now (inv.told z) c.requires.hashes.bounded w.1 w.2
+    tells_products (length t.exponents) w.0 c.loop-hashes.keys t c.args.hashes.now.position c.args.hashes.now.degree c.args.v.now (inv.told z) c.requires.hashes.bounded w.1 w.2
     (inv.part.weighed w.0 w.1 w.2 w.3)
 
 pub push_known-entries-requires-clause-variables : goal.push_known-entries-requires-clause-variables
@@ -67,7 +67,7 @@ loop-hashes-preserved c =
       part = part_more c.args.keys.now old new t v entries c.push_reserved.new.self.items i x number
           (c.push_known-entries.ensures.part c.args.keys.now inv.part) g (omega arith) lt c.index-v-i.is sized (omega (arith, c.in-Ok.ensures.small))
           c.push_reserved.ensures.items;
-      told = λ z. told_more old new t c.args.hashes.now x.0 number sized (inv.told z) bounded g;
+      told = λ z. told_more old new t c.args.hashes.now.position c.args.hashes.now.degree x.0 number sized (inv.told z) bounded g;
       within = omega arith;
       room = omega arith;
     }
