@@ -5,4 +5,5 @@ pub mod Inducing
 pub mod LeastLeads
 pub mod PairSteps
 pub mod Finding
+pub mod Reaching
 pub mod Dropping

@@ -1,6 +1,7 @@
 -- what public clauses cite
 pub mod Laws
 pub mod Ways
+pub mod Reaching
 pub mod Spans
 pub mod PairLeads
 pub mod Pairs

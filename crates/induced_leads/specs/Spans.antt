@@ -9,6 +9,7 @@ use Rattle.vector_division.specs.Divisions.{IsUncovered}
 use Rattle.vector_division.specs.Marks.{IsMarkOf}
 use Rattle.vector_division.specs.Progress.{IsDivisor}
 use Rattle.vector_division.specs.declared.marks.Mark.{Mark}
+use Rattle.induced_leads.specs.Reaching.{AreLeadBits}
 use Rattle.induced_leads.specs.declared.divisors.LeadIndex.{LeadIndex}
 use Rattle.induced_leads.specs.declared.divisors.Span.{Span}
 
@@ -30,9 +31,15 @@ pub record AreMarks (columns : List (List (CodeKey × ℕ))) (marks : List Mark)
   pub count : length marks ≡ length columns
   pub each : (i : ℕ) (m : Mark) → i < length columns → m ≡ get_or marks i m → IsMarkOf (get_or columns i []) m
 
--- the marks are those of the columns, and each column stands in the span of its lead's position
+-- the bits of each column's lead
+pub record AreVariables (columns : List (List (CodeKey × ℕ))) (variables : List ℕ) : Type 0 where
+  pub count : length variables ≡ length columns
+  pub each : (i : ℕ) → i < length columns → AreLeadBits (get_or columns i []) (get_or variables i 0)
+
+-- the marks and bits are those of the columns, and each column stands in the span of its lead's position
 pub record IsIndexOf (columns : List (List (CodeKey × ℕ))) (index : LeadIndex) : Type 0 where
   pub marks : AreMarks columns index.marks.items
+  pub variables : AreVariables columns index.variables.items
   pub spans : (n j : ℕ) → j < length columns → 0 < length (get_or columns j []) → IsSpannedAt index.spans.items (lead_at n columns j).0 j
 
 -- none of the columns from `end` on has its lead at this position

@@ -1,9 +1,12 @@
 // The last column whose lead divides a key.
-ghost use Rattle.std.specs.Prelude.{◌≤◌, IfOk, OnOk, length};
+ghost use Rattle.std.specs.Prelude.{◌≡◌, ◌<◌, ◌≤◌, List, false, ℕ, IfOk, IsTrue, OnOk, length};
 ghost use Rattle.term_lists.specs.Rings.{variables};
-ghost use Rattle.term_lists.specs.Vectors.{IsMonomialOver, key_of};
+ghost use Rattle.term_lists.specs.Vectors.{IsMonomialOver, key_of, sums_of};
+ghost use Rattle.term_lists.specs.declared.key.Key.{Key as KeyValue};
+ghost use Rattle.vector_division.specs.Divisions.{IsUncovered};
 ghost use Rattle.vector_division.specs.Progress.{AreWeighed};
 ghost use Rattle.induced_leads.specs.Spans.{ArePast, IsFoundLast, IsIndexOf, IsWidened};
+ghost use Rattle.induced_leads.specs.Reaching.{AreLeadBits, HasNoLeads, OccurAmong, positions_of};
 
 use module_vectors::{Key, NoMemory, Ring, Vect};
 use monomial_orders::Mono;
@@ -17,17 +20,28 @@ pub(crate) struct Span {
     pub(crate) to: usize,
 }
 
-/// An index of the leads of a map's columns, by which divisors of a key are found: the mark of each column, and the span of each
-/// position.
+// No column has its lead at a position that has this span.
+const NO_SPAN: Span = Span {
+    from: usize::MAX,
+    to: 0,
+};
+
+/// An index of the leads of a map's columns, by which divisors of a key are found: the mark of each column, a bit for each of the first
+/// 64 variables that occurs in its lead, and the span of each position.
 pub struct LeadIndex {
     pub(crate) marks: Vec<Mark>,
+    pub(crate) variables: Vec<u64>,
     pub(crate) spans: Vec<Span>,
 }
 
 // By hand, so that each drop of one is a call.
 impl Drop for LeadIndex {
     fn drop(self) {
-        let LeadIndex { marks: _, spans: _ } = self;
+        let LeadIndex {
+            marks: _,
+            variables: _,
+            spans: _,
+        } = self;
     }
 }
 
@@ -44,6 +58,58 @@ impl LeadIndex {
             0
         }
     }
+
+    /// How many positions have spans.
+    pub fn positions(&self) -> usize
+        ensures { result ≡ positions_of self.now }
+    {
+        self.spans.len()
+    }
+
+    /// Can a lead of the columns stand at this position? Where not, none does.
+    pub fn has_leads(&self, position: u64) -> bool
+        ensures none { (result ≡ false) → (columns : List (List (KeyValue × ℕ))) → IsIndexOf columns self.now → HasNoLeads columns position }
+        ensures inside { IsTrue result → position < positions_of self.now }
+    {
+        if position >= self.spans.len() as u64 {
+            return false;
+        }
+        let span = self.spans[position as usize];
+        if span.from >= span.to {
+            return false;
+        }
+        true
+    }
+
+    /// Can a lead of the columns divide a key at this position in which these variables occur, and no other of the first 64? Where not,
+    /// none does. So keys that no lead divides are mostly told before they are made.
+    pub fn may_divide(&self, position: u64, variables: u64) -> bool
+        ensures { (result ≡ false) → (n : ℕ) (ws : List ℕ) (columns : List (List (KeyValue × ℕ))) (k : KeyValue) → IsIndexOf columns self.now
+            → AreWeighed n ws columns → length k.monomial.exponents ≡ n → k.position ≡ position → OccurAmong k.monomial.exponents variables
+            → IsUncovered (sums_of n columns) (key_of n k) }
+    {
+        if position >= self.spans.len() as u64 {
+            return false;
+        }
+        let span = self.spans[position as usize];
+        for i in span.from..span.to.min(self.variables.len()) {
+            let least = self.variables[i];
+            if least & variables == least {
+                return true;
+            }
+        }
+        false
+    }
+}
+
+// The variables that occur in the lead of a column; all of them, which occur in few keys, where it has none.
+fn lead_variables(column: &Vect) -> u64
+    ensures { AreLeadBits column.now result }
+{
+    match column.lead() {
+        Some(lead) => occurring_variables(&lead.key.monomial),
+        None => u64::MAX,
+    }
 }
 
 // Makes the span of a position so wide that it has this one in it.
@@ -51,7 +117,7 @@ fn widen(alloc: Global, position: u64, more: Span, spans: &mut Vec<Span>) -> Res
     ensures { OnOk result (IsWidened position more spans.old.items spans.new.items) }
 {
     while spans.len() as u64 <= position {
-        spans.push(more)?;
+        spans.push(NO_SPAN)?;
     }
     let at = position as usize;
     let span = spans[at];
@@ -67,15 +133,21 @@ pub fn index_leads(alloc: Global, columns: &[Vect]) -> Result<LeadIndex, NoMemor
     ensures { IfOk result (IsIndexOf columns.now) }
 {
     let mut marks = Vec::with_capacity(alloc, columns.len())?;
+    let mut variables = Vec::with_capacity(alloc, columns.len())?;
     let mut spans = Vec::new(alloc);
     for i in 0..columns.len() {
         marks.push_reserved(mark_of(&columns[i]));
+        variables.push_reserved(lead_variables(&columns[i]));
         if let Some(lead) = columns[i].lead() {
             let place = Span { from: i, to: i + 1 };
             widen(alloc, lead.key.position, place, &mut spans)?;
         }
     }
-    Ok(LeadIndex { marks, spans })
+    Ok(LeadIndex {
+        marks,
+        variables,
+        spans,
+    })
 }
 
 /// The last column whose lead divides the key, by its index, and the quotient; none where there is no such column. Divided by

@@ -6,13 +6,11 @@
 #![tactic(auto)]
 
 mod hashes;
-mod order;
 mod products;
 mod sums;
 mod work;
 
 pub use hashes::column_hashes;
-pub use order::{Order, order_of, product_at};
-pub use products::{Product, numbered_product};
+pub use products::numbered_product;
 pub use sums::{add_multiple, clear_sums, residue_at};
-pub use work::{Pass, Work, first_group, mark, no_work, pass_over, take_bit, take_place};
+pub use work::{Work, first_group, mark, no_work, take_bit};

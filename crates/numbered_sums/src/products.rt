@@ -14,27 +14,6 @@ use monomial_orders::Mono;
 use row_matrix::{KeyTable, ProductStop, TermHashes, product_row};
 use std::alloc::Global;
 
-/// The product of a monomial and the vector of a list with this index: the number of a key, which is its lead, and each of its keys
-/// by its number, with its residue.
-pub struct Product {
-    pub number: u32,
-    pub index: u64,
-    pub monomial: Mono,
-    pub entries: Vec<(u32, u32)>,
-}
-
-// By hand, so that each drop of one is a call.
-impl Drop for Product {
-    fn drop(self) {
-        let Product {
-            number: _,
-            index: _,
-            monomial: _,
-            entries: _,
-        } = self;
-    }
-}
-
 /// The product of a monomial and the vector with this index, whose keys have these hashes. Its keys have numbers from then on.
 pub fn numbered_product(
     alloc: Global,

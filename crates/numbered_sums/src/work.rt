@@ -2,7 +2,6 @@
 ghost use Rattle.std.specs.Prelude.{◌≡◌, IfOk, length};
 ghost use Rattle.numbered_sums.specs.KeySums.{AreZeroSums};
 
-use crate::order::place_at;
 use module_vectors::NoMemory;
 use std::alloc::Global;
 
@@ -41,6 +40,16 @@ pub fn no_work(alloc: Global, count: usize) -> Result<Work, NoMemory>
         marks,
         words,
     })
+}
+
+// The place of the key with this number, 0 past the end.
+fn place_at(places: &[u32], number: u32) -> usize {
+    let at = number as usize;
+    if at < places.len() {
+        places[at] as usize
+    } else {
+        0
+    }
 }
 
 // Sets the bit with this number.
@@ -90,36 +99,4 @@ pub fn first_group(places: &[u32], touched: &[u32]) -> usize {
         least = least.min(place_at(places, *number));
     }
     least / 4096
-}
-
-/// Where a pass over the marks stands: in this word of them, and in this word of words.
-#[derive(Clone, Copy)]
-pub struct Pass {
-    word: usize,
-    group: usize,
-}
-
-/// A pass over the marks from this word of words on.
-pub fn pass_over(group: usize) -> Pass {
-    Pass {
-        word: usize::MAX,
-        group,
-    }
-}
-
-/// The least place from there on that is marked, which is marked no more.
-pub fn take_place(pass: &mut Pass, marks: &mut Vec<u64>, words: &mut Vec<u64>) -> Option<usize> {
-    for group in pass.group..words.len() {
-        pass.group = group;
-        'words: for _ in 0..65 {
-            if let Some(place) = take_bit(pass.word, marks) {
-                return Some(place);
-            }
-            match take_bit(group, words) {
-                None => break 'words,
-                Some(word) => pass.word = word,
-            }
-        }
-    }
-    None
 }
