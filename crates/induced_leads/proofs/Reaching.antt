@@ -20,7 +20,7 @@ use Rattle.vector_division.specs.Divisions.{IsUncovered}
 use Rattle.vector_division.specs.Marks.{HasBits, occurs_bit}
 use Rattle.vector_division.specs.Progress.{AreWeighed}
 use Rattle.induced_leads.proofs.Finding.{from_span, no_span, to_span}
-use Rattle.induced_leads.specs.Reaching.{AreLeadBits, HasNoLeads, OccurAmong}
+use Rattle.induced_leads.specs.Reaching.{OccurInLead, HasNoLeads, OccurAmong}
 use Rattle.induced_leads.specs.Spans.{IsIndexOf}
 use Rattle.induced_leads.specs.declared.divisors.LeadIndex.{LeadIndex}
 use Rattle.induced_leads.specs.declared.divisors.Span.{Span}
@@ -56,7 +56,7 @@ among d k x y hx ky le = same_from_bits (bit_and x y) x (λ i. bit_at_and x y i 
 
 -- a lead that divides the key has its bits among those of the key
 lead_among :
-    (n : ℕ) (v : List (CodeKey × ℕ)) (k : CodeKey) (x y : ℕ) → Each (HasVariables n) v → AreLeadBits v x → length k.monomial.exponents ≡ n
+    (n : ℕ) (v : List (CodeKey × ℕ)) (k : CodeKey) (x y : ℕ) → Each (HasVariables n) v → OccurInLead v x → length k.monomial.exponents ≡ n
     → OccurAmong k.monomial.exponents y → 0 < length v → KeyDivides (head_key (sum_of n v)) (key_of n k) → bit_and x y ≡ x
 lead_among n [] k x y vars bits len occur some d = absurd (omega (arith, some))
 lead_among n (t ∷ v) k x y vars bits len occur some d = among t.0.monomial.exponents k.monomial.exponents x y bits occur (λ i. places i (cases_lt i n))

@@ -13,9 +13,9 @@ abbrev pub OccurAmong : List ℕ → ℕ → Type 0
 OccurAmong monomial bits = (i : ℕ) → i < 64 → bit_at bits i ≡ 0 → slice_index monomial i ≡ 0
 
 -- the bits say which variables occur in the lead; nothing is said of zero
-abbrev pub AreLeadBits : List (CodeKey × ℕ) → ℕ → Type 0
-AreLeadBits [] bits = Unit {0}
-AreLeadBits (t ∷ v) bits = HasBits t.0.monomial.exponents bits
+abbrev pub OccurInLead : List (CodeKey × ℕ) → ℕ → Type 0
+OccurInLead [] bits = Unit {0}
+OccurInLead (t ∷ v) bits = HasBits t.0.monomial.exponents bits
 
 -- no lead of the columns stands at this position
 abbrev pub HasNoLeads : List (List (CodeKey × ℕ)) → ℕ → Type 0

@@ -9,7 +9,7 @@ use Rattle.vector_division.specs.Divisions.{IsUncovered}
 use Rattle.vector_division.specs.Marks.{IsMarkOf}
 use Rattle.vector_division.specs.Progress.{IsDivisor}
 use Rattle.vector_division.specs.declared.marks.Mark.{Mark}
-use Rattle.induced_leads.specs.Reaching.{AreLeadBits}
+use Rattle.induced_leads.specs.Reaching.{OccurInLead}
 use Rattle.induced_leads.specs.declared.divisors.LeadIndex.{LeadIndex}
 use Rattle.induced_leads.specs.declared.divisors.Span.{Span}
 
@@ -34,7 +34,7 @@ pub record AreMarks (columns : List (List (CodeKey × ℕ))) (marks : List Mark)
 -- the bits of each column's lead
 pub record AreVariables (columns : List (List (CodeKey × ℕ))) (variables : List ℕ) : Type 0 where
   pub count : length variables ≡ length columns
-  pub each : (i : ℕ) → i < length columns → AreLeadBits (get_or columns i []) (get_or variables i 0)
+  pub each : (i : ℕ) → i < length columns → OccurInLead (get_or columns i []) (get_or variables i 0)
 
 -- the marks and bits are those of the columns, and each column stands in the span of its lead's position
 pub record IsIndexOf (columns : List (List (CodeKey × ℕ))) (index : LeadIndex) : Type 0 where

@@ -6,7 +6,7 @@ ghost use Rattle.term_lists.specs.declared.key.Key.{Key as KeyValue};
 ghost use Rattle.vector_division.specs.Divisions.{IsUncovered};
 ghost use Rattle.vector_division.specs.Progress.{AreWeighed};
 ghost use Rattle.induced_leads.specs.Spans.{ArePast, IsFoundLast, IsIndexOf, IsWidened};
-ghost use Rattle.induced_leads.specs.Reaching.{AreLeadBits, HasNoLeads, OccurAmong, positions_of};
+ghost use Rattle.induced_leads.specs.Reaching.{OccurInLead, HasNoLeads, OccurAmong, positions_of};
 
 use module_vectors::{Key, NoMemory, Ring, Vect};
 use monomial_orders::Mono;
@@ -104,7 +104,7 @@ impl LeadIndex {
 
 // The variables that occur in the lead of a column; all of them, which occur in few keys, where it has none.
 fn lead_variables(column: &Vect) -> u64
-    ensures { AreLeadBits column.now result }
+    ensures { OccurInLead column.now result }
 {
     match column.lead() {
         Some(lead) => occurring_variables(&lead.key.monomial),
