@@ -11,5 +11,6 @@ pub mod Pairing
 pub mod FreeRows
 pub mod Substitution
 pub mod Rows
+pub mod Pushing
 pub mod Turns
 pub mod SharedColumns

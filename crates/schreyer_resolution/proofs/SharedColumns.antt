@@ -28,7 +28,7 @@ use Rattle.schreyer_resolution.proofs.FirstMaps.{pair_at}
 use Rattle.schreyer_resolution.proofs.Trailing.{key_inside}
 use Rattle.schreyer_resolution.specs.Columns.{AreColumnsTo, IsColumnOf, negated_term}
 use Rattle.numbered_sums.specs.ProductEntries.{AreReduced}
-use Rattle.numbered_sums.specs.declared.products.Product.{Product}
+use Rattle.schreyer_resolution.specs.declared.products.Product.{Product}
 use Rattle.schreyer_resolution.specs.Sharing.{AreLastQuotients, AreColumnsMade, IsLastQuotient, IsColumnMade}
 use Rattle.schreyer_resolution.specs.Steps.{IsLastDivisor}
 use Rattle.schreyer_resolution.specs.Turns.{product_term, quotient_at, quotients_at}

@@ -23,8 +23,8 @@ use Rattle.numbered_sums.specs.KeySums.{AddsProduct, AreSmall, AreTouched, AreZe
 use Rattle.numbered_sums.specs.ProductEntries.{multiple_at}
 use Rattle.schreyer_resolution.proofs.FreeMembers.{rest_member}
 use Rattle.schreyer_resolution.specs.FreeKeys.{AreFreeMembersZero, IsProductUpToFree}
-use Rattle.schreyer_resolution.specs.Sharing.{AreLastQuotients, AreTakenQuotients, IsLastProduct}
-use Rattle.numbered_sums.specs.declared.products.Product.{Product}
+use Rattle.schreyer_resolution.specs.Sharing.{AreLastQuotients, AreTakenQuotients, IsLastProduct, row_at}
+use Rattle.schreyer_resolution.specs.declared.products.Product.{Product}
 
 -- a product is taken away of the sums and of what stands behind them
 sum_and_rest_taken :
@@ -116,25 +116,27 @@ module _ (ring : Ring) (columns : List (List (CodeKey × ℕ))) (keys : List Cod
 
   -- one product is taken away
   pub taken_more :
-      (qs : List ScaledProduct) (r f : ℕ) (old new before touched : List ℕ) (s : Product) → AreTakenQuotients ring columns keys key qs old before → IsLastProduct ring columns keys s
-      → 0 < r → r < ring.modulus.value → IsCongruent ring.modulus.value (f + r) 0 → AddsProduct ring.modulus.value f s.entries.items old new → AreSmall new → AreTouched touched new
+      (qs : List ScaledProduct) (r f : ℕ) (old new before touched : List ℕ) (entries : List Entry) (s : Product)
+      → AreTakenQuotients ring columns keys key qs old before → IsLastProduct ring columns keys entries s
+      → 0 < r → r < ring.modulus.value → IsCongruent ring.modulus.value (f + r) 0
+      → AddsProduct ring.modulus.value f (row_at entries s.stretch) old new → AreSmall new → AreTouched touched new
       → AreTakenQuotients ring columns keys key (qs ++ (record { index = s.index; residue = r; monomial = s.monomial }) ∷ []) new touched
-  taken_more qs r f old new before touched s t h pos lt z adds small marked =
+  taken_more qs r f old new before touched entries s t h pos lt z adds small marked =
       let q : ScaledProduct = record { index = s.index; residue = r; monomial = s.monomial } in
       let K = column_key (variables ring) keys in
-      let more = scale f (unit (variables ring)) h.row.rest in
+      let more = scale f (unit (variables ring)) h.row.row.rest in
       record {
-        quotients = Each_append _ qs (q ∷ []) t.quotients (record { index = h.index; weighed = h.weighed; nonzero = pos; reduced = lt; last = h.last }, tt);
+        quotients = Each_append _ qs (q ∷ []) t.quotients (record { index = h.found.index; weighed = h.found.weighed; nonzero = pos; reduced = lt; last = h.found.last }, tt);
         count = adds.count ∙ t.count;
         small = small;
         marked = marked;
         rest = t.rest ++ more;
-        free = Each_append _ t.rest more t.free (free_scaled f h.row.rest h.row.free);
+        free = Each_append _ t.rest more t.free (free_scaled f h.row.row.rest h.row.row.free);
         sum = subst (λ v. IsSame ring.modulus.value (multiple_at ring columns key.position key.monomial) ((v ++ numbered_sum K 0 new) ++ (t.rest ++ more)))
             (sym (combination_more qs q))
             (sum_and_rest_taken ring.modulus.value r f s.monomial.exponents (multiple_at ring columns key.position key.monomial)
-            (combination F (cofactors_of (variables ring) qs)) (numbered_sum K 0 old) (numbered_sum K 0 new) t.rest (row_sum K s.entries.items) h.row.rest
-            (sum_of (variables ring) (get_or columns s.index [])) z h.row.sum t.sum (adds.sum (variables ring) K));
+            (combination F (cofactors_of (variables ring) qs)) (numbered_sum K 0 old) (numbered_sum K 0 new) t.rest (row_sum K (row_at entries s.stretch)) h.row.row.rest
+            (sum_of (variables ring) (get_or columns s.index [])) z h.row.row.sum t.sum (adds.sum (variables ring) K));
       }
 
   -- the end: the rest is a member without a covered key, so that it is 0

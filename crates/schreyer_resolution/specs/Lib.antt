@@ -7,4 +7,5 @@ pub mod Sorting
 pub mod Progress
 pub mod Turns
 pub mod FreeKeys
+pub mod Marking
 pub mod Sharing

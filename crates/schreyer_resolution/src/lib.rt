@@ -8,9 +8,10 @@
 #![tactic(auto)]
 
 mod column;
-mod free_entries;
+mod marking;
 mod numbered;
 mod ordering;
+mod products;
 mod resolving;
 mod shared;
 mod sorting;

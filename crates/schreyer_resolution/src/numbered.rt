@@ -1,205 +1,176 @@
-// Products of columns over numbers of their keys, each made once for all columns of the next map.
-ghost use Rattle.std.specs.Prelude.{◌≡◌, ◌<◌, ◌+◌, ◌++◌, ◌∷◌, [], IfOk, OnOk, length};
+// The rows of products over numbers of keys.
+ghost use Rattle.std.specs.Prelude.{◌≡◌, ◌<◌, [], List, true, false, ℕ, IfOk, IsTrue, OnOk, length};
 ghost use Rattle.formal_sums.specs.FormalSums.{Each};
 ghost use Rattle.term_lists.specs.Rings.{variables};
-ghost use Rattle.term_lists.specs.Vectors.{IsMonomialOver};
+ghost use Rattle.term_lists.specs.Vectors.{IsMonomialOver, key_of, sums_of};
+ghost use Rattle.vector_division.specs.Divisions.{IsUncovered};
 ghost use Rattle.vector_division.specs.Progress.{AreWeighed};
-ghost use Rattle.row_matrix.specs.Naming.{IsGrown};
-ghost use Rattle.row_matrix.specs.Rows.{AreKeys};
+ghost use Rattle.row_matrix.specs.Hashes.{key_product};
 ghost use Rattle.induced_leads.specs.Pairs.{AreNonzero};
+ghost use Rattle.induced_leads.specs.Reaching.{OccurAmong, positions_of};
 ghost use Rattle.induced_leads.specs.Spans.{IsIndexOf};
-ghost use Rattle.numbered_sums.specs.ColumnHashes.{AreColumnHashes};
-ghost use Rattle.numbered_sums.specs.ProductEntries.{AreReduced, IsProductEntries};
-ghost use Rattle.schreyer_resolution.specs.FreeKeys.{AreFreeNumbers, HasMoreKeys};
-ghost use Rattle.schreyer_resolution.specs.Sharing.{AreStarts, IsLastProduct, entry_lists};
+ghost use Rattle.numbered_sums.specs.ProductEntries.{AreReduced};
+ghost use Rattle.schreyer_resolution.specs.FreeKeys.{HasMore};
+ghost use Rattle.schreyer_resolution.specs.Marking.{AreColumnMarks, IsTermMark};
+ghost use Rattle.schreyer_resolution.specs.Sharing.{AreLastProducts, ArePartProducts, AreStarts, HaveMore, IsRowOf};
 
-use induced_leads::{LeadIndex, last_divisor};
-use module_vectors::{Key, NoMemory, Ring, Vect};
+use crate::marking::{ColumnMarks, TermMark};
+use crate::products::{Products, Stretch, push_entry};
+use induced_leads::LeadIndex;
+use module_vectors::{Key, Ring, Vect};
 use monomial_orders::Mono;
-use numbered_sums::{Product, numbered_product};
-use row_matrix::{KeyTable, ProductStop, TermHashes, kept_number};
+use row_matrix::{ProductStop, hash_of_factor};
 use std::alloc::Global;
+use vector_division::occurring_variables;
 
-// More keys than these are not numbered.
-const MOST_KEYS: usize = 1 << 22;
+// No more products are made than these.
+const MOST_PRODUCTS: usize = 1 << 22;
 
-/// The product of a monomial and the column with this index. Its keys have numbers from then on.
-pub(crate) fn column_product(
+// Can a lead divide the product of t, in which these variables occur, and the key with this mark? Where not, none does.
+fn may_be_covered(
+    columns: &[Vect],
+    index: &LeadIndex,
+    t: &Mono,
+    variables: u64,
+    key: &Key,
+    mark: TermMark,
+) -> bool
+    requires index { IsIndexOf columns.now index.now }
+    requires variables { OccurAmong t.now.exponents variables }
+    requires mark { IsTermMark columns.now (positions_of index.now) key.now mark }
+    ensures reached { IsTrue result → mark.is_reached ≡ true }
+    ensures never { (result ≡ false) → (n : ℕ) (ws : List ℕ) → AreWeighed n ws columns.now → length t.now.exponents ≡ n
+        → length key.now.monomial.exponents ≡ n → IsUncovered (sums_of n columns.now) (key_of n (key_product t.now key.now)) }
+{
+    let _columns = columns;
+    let _t = t;
+    if mark.is_reached {
+        return mark.is_sure || index.may_divide(key.position, mark.variables | variables);
+    }
+    false
+}
+
+/// Puts the entries of the product of t and the column with this index behind the others, without those whose keys no lead divides.
+pub(crate) fn push_row(
     alloc: Global,
     ring: &Ring,
     columns: &[Vect],
-    hashes: &[TermHashes],
-    index: usize,
-    monomial: &Mono,
-    numbers: &mut KeyTable,
-) -> Result<Vec<(u32, u32)>, ProductStop>
-    requires index { index < length columns.now }
-    requires monomial { IsMonomialOver ring.now monomial.now }
+    index: &LeadIndex,
+    marks: &[ColumnMarks],
+    at: usize,
+    t: &Mono,
+    products: &mut Products,
+) -> Result<Stretch, ProductStop>
+    requires at { at < length columns.now }
+    requires monomial { IsMonomialOver ring.now t.now }
+    requires some { AreNonzero columns.now }
     requires weighed { AreWeighed (variables ring.now) ring.now.weights columns.now }
     requires reduced { AreReduced ring.now.modulus.value columns.now }
-    requires hashes { AreColumnHashes columns.now hashes.now }
-    requires keys { AreKeys (variables ring.now) ring.now.weights numbers.old }
-    ensures row { IfOk result (λ row. IsProductEntries ring.now columns.now numbers.new index monomial.now row.items) }
-    ensures keys { OnOk result (AreKeys (variables ring.now) ring.now.weights numbers.new) }
-    ensures grown { IfOk result (λ row. IsGrown numbers.old numbers.new row.items) }
+    requires index { IsIndexOf columns.now index.now }
+    requires marks { AreColumnMarks columns.now (positions_of index.now) marks.now }
+    requires part { ArePartProducts ring.now columns.now products.old }
+    ensures part { OnOk result (ArePartProducts ring.now columns.now products.new) }
+    ensures more { OnOk result (HaveMore products.old products.new) }
+    ensures row { IfOk result (IsRowOf ring.now columns.now products.new.numbers products.new.entries.items at t.now) }
 {
-    numbered_product(
-        alloc,
-        ring,
-        columns,
-        index,
-        monomial,
-        &hashes[index],
-        numbers,
-    )
+    let from = products.entries.len();
+    let terms = columns[at].terms();
+    let of_column = &marks[at];
+    let added = hash_of_factor(t);
+    let told = products
+        .numbers
+        .tells(t, index.positions() as u64, of_column.degree);
+    let variables = occurring_variables(t);
+    for k in 0..terms.len() {
+        let mark = of_column.marks[k];
+        let term = &terms[k];
+        if may_be_covered(columns, index, t, variables, &term.0, mark) {
+            term.0.monomial.bounds();
+            push_entry(
+                alloc, ring, columns, index, t, added, told, term, k, mark.hash, products,
+            )?;
+        }
+    }
+    Ok(Stretch {
+        from,
+        to: products.entries.len(),
+    })
 }
 
-/// The entries of the products of these keys' monomials and their columns. Their keys have numbers from then on.
+/// Puts the entries of the products of these keys' monomials and their columns behind the others.
 pub(crate) fn start_rows(
     alloc: Global,
     ring: &Ring,
     columns: &[Vect],
-    hashes: &[TermHashes],
+    index: &LeadIndex,
+    marks: &[ColumnMarks],
     keys: &[Key],
-    numbers: &mut KeyTable,
-) -> Result<Vec<Vec<(u32, u32)>>, ProductStop>
+    products: &mut Products,
+) -> Result<Vec<Stretch>, ProductStop>
     requires positions { Each (λ k. k.position < length columns.now) keys.now }
     requires monomials { Each (λ k. IsMonomialOver ring.now k.monomial) keys.now }
+    requires some { AreNonzero columns.now }
     requires weighed { AreWeighed (variables ring.now) ring.now.weights columns.now }
     requires reduced { AreReduced ring.now.modulus.value columns.now }
-    requires hashes { AreColumnHashes columns.now hashes.now }
-    requires keys { AreKeys (variables ring.now) ring.now.weights numbers.old }
-    ensures keys { OnOk result (AreKeys (variables ring.now) ring.now.weights numbers.new) }
-    ensures starts { IfOk result (λ rows. AreStarts ring.now columns.now numbers.new keys.now (length keys.now) (entry_lists rows.items)) }
+    requires index { IsIndexOf columns.now index.now }
+    requires marks { AreColumnMarks columns.now (positions_of index.now) marks.now }
+    requires part { ArePartProducts ring.now columns.now products.old }
+    ensures part { OnOk result (ArePartProducts ring.now columns.now products.new) }
+    ensures starts { IfOk result (λ rows. AreStarts ring.now columns.now products.new.numbers products.new.entries.items keys.now (length keys.now) rows.items) }
 {
     let mut rows = Vec::with_capacity(alloc, keys.len())?;
     for key in keys {
-        rows.push_reserved(column_product(
+        rows.push_reserved(push_row(
             alloc,
             ring,
             columns,
-            hashes,
+            index,
+            marks,
             key.position as usize,
             &key.monomial,
-            numbers,
+            products,
         )?);
     }
     Ok(rows)
 }
 
-// Puts the product behind the others.
-fn keep_product(product: Product, products: &mut Vec<Product>) -> Result<(), NoMemory>
-    ensures { OnOk result (products.new.items ≡ products.old.items ++ product ∷ []) }
-{
-    products.push(product)?;
-    Ok(())
-}
-
-// Puts the flag behind the others.
-fn keep_flag(flag: bool, free: &mut Vec<bool>) -> Result<(), NoMemory>
-    ensures { OnOk result (free.new.items ≡ free.old.items ++ flag ∷ []) }
-{
-    free.push(flag)?;
-    Ok(())
-}
-
-// Puts the product of the key with this number behind the others, if a lead divides the key, and a flag that says whether none does.
-fn push_product(
+/// Puts the entries of each product of the list behind the others. Products that come to be in the list are made as well.
+pub(crate) fn all_rows(
     alloc: Global,
     ring: &Ring,
     columns: &[Vect],
     index: &LeadIndex,
-    hashes: &[TermHashes],
-    number: usize,
-    numbers: &mut KeyTable,
-    products: &mut Vec<Product>,
-    free: &mut Vec<bool>,
+    marks: &[ColumnMarks],
+    products: &mut Products,
 ) -> Result<(), ProductStop>
-    requires number { number < length numbers.old }
-    requires next { length free.old.items ≡ number }
     requires some { AreNonzero columns.now }
     requires weighed { AreWeighed (variables ring.now) ring.now.weights columns.now }
     requires reduced { AreReduced ring.now.modulus.value columns.now }
     requires index { IsIndexOf columns.now index.now }
-    requires hashes { AreColumnHashes columns.now hashes.now }
-    requires keys { AreKeys (variables ring.now) ring.now.weights numbers.old }
-    requires products { Each (IsLastProduct ring.now columns.now numbers.old) products.old.items }
-    requires free { AreFreeNumbers (variables ring.now) columns.now numbers.old free.old.items }
-    ensures keys { OnOk result (AreKeys (variables ring.now) ring.now.weights numbers.new) }
-    ensures more { OnOk result (HasMoreKeys numbers.old numbers.new) }
-    ensures next { OnOk result (length free.new.items ≡ number + 1) }
-    ensures products { OnOk result (Each (IsLastProduct ring.now columns.now numbers.new) products.new.items) }
-    ensures free { OnOk result (AreFreeNumbers (variables ring.now) columns.now numbers.new free.new.items) }
+    requires marks { AreColumnMarks columns.now (positions_of index.now) marks.now }
+    requires part { ArePartProducts ring.now columns.now products.old }
+    ensures part { OnOk result (ArePartProducts ring.now columns.now products.new) }
+    ensures numbers { OnOk result (HasMore products.old.numbers products.new.numbers) }
+    ensures entries { OnOk result (HasMore products.old.entries.items products.new.entries.items) }
+    ensures last { OnOk result (AreLastProducts ring.now columns.now products.new) }
 {
-    let found = last_divisor(alloc, ring, columns, index, &numbers.keys()[number])?;
-    match found {
-        None => {
-            keep_flag(true, free)?;
-            Ok(())
+    for at in 0..MOST_PRODUCTS {
+        if at >= products.list.len() {
+            return Ok(());
         }
-        Some((at, monomial)) => {
-            let entries = column_product(
-                alloc,
-                ring,
-                columns,
-                hashes,
-                at as usize,
-                &monomial,
-                numbers,
-            )?;
-            let product = Product {
-                number: kept_number(number)?,
-                index: at,
-                monomial,
-                entries,
-            };
-            keep_product(product, products)?;
-            keep_flag(false, free)?;
-            Ok(())
-        }
-    }
-}
-
-/// The product of each key that has a number or gets one in such a product, where a lead divides the key. For each number a flag is
-/// put behind the others that says whether no lead divides its key.
-pub(crate) fn all_products(
-    alloc: Global,
-    ring: &Ring,
-    columns: &[Vect],
-    index: &LeadIndex,
-    hashes: &[TermHashes],
-    numbers: &mut KeyTable,
-    free: &mut Vec<bool>,
-) -> Result<Vec<Product>, ProductStop>
-    requires no_flags { free.old.items ≡ [] }
-    requires some { AreNonzero columns.now }
-    requires weighed { AreWeighed (variables ring.now) ring.now.weights columns.now }
-    requires reduced { AreReduced ring.now.modulus.value columns.now }
-    requires index { IsIndexOf columns.now index.now }
-    requires hashes { AreColumnHashes columns.now hashes.now }
-    requires keys { AreKeys (variables ring.now) ring.now.weights numbers.old }
-    ensures keys { OnOk result (AreKeys (variables ring.now) ring.now.weights numbers.new) }
-    ensures more { OnOk result (HasMoreKeys numbers.old numbers.new) }
-    ensures products { IfOk result (λ products. Each (IsLastProduct ring.now columns.now numbers.new) products.items) }
-    ensures whole { OnOk result (length free.new.items ≡ length numbers.new) }
-    ensures free { OnOk result (AreFreeNumbers (variables ring.now) columns.now numbers.new free.new.items) }
-{
-    let mut products = Vec::with_capacity(alloc, numbers.len())?;
-    for number in 0..MOST_KEYS {
-        if number >= numbers.len() {
-            return Ok(products);
-        }
-        push_product(
+        let t = products.list[at].monomial.try_copy(alloc)?;
+        let index_of_column = products.list[at].index as usize;
+        let stretch = push_row(
             alloc,
             ring,
             columns,
             index,
-            hashes,
-            number,
-            numbers,
-            &mut products,
-            free,
+            marks,
+            index_of_column,
+            &t,
+            products,
         )?;
+        products.list[at].stretch = stretch;
     }
     Err(ProductStop::Memory)
 }

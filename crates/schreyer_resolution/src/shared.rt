@@ -13,16 +13,17 @@ ghost use Rattle.schreyer_resolution.specs.Columns.{AreColumnsTo, IsAbove};
 ghost use Rattle.numbered_sums.specs.KeySums.{AreZeroSums};
 ghost use Rattle.numbered_sums.specs.ProductEntries.{AreReduced};
 ghost use Rattle.schreyer_resolution.specs.FreeKeys.{AreFreeMembersZero, IsProductUpToFree};
-ghost use Rattle.schreyer_resolution.specs.Sharing.{AreColumnsMade, AreStarts, IsColumnMade, IsLastProduct, entry_lists};
+ghost use Rattle.schreyer_resolution.specs.Sharing.{AreColumnsMade, AreLastProducts, ArePartProducts, AreStarts, IsColumnMade};
 ghost use Rattle.schreyer_resolution.specs.Turns.{product_term};
 
-use crate::free_entries::{cut_products, cut_starts};
-use crate::numbered::{all_products, start_rows};
-use crate::ordering::{descends, product_terms, sort_products, taken_terms};
+use crate::marking::column_marks;
+use crate::numbered::{all_rows, start_rows};
+use crate::ordering::{descends, places_of, product_terms, sort_products, taken_terms};
+use crate::products::{Products, Stretch, row_of};
 use crate::substituting::take_quotients;
 use induced_leads::{Induced, LeadIndex};
 use module_vectors::{Frame, Key, NoMemory, Ring, Vect, VectList, lawful_setting};
-use numbered_sums::{Order, Product, Work, column_hashes, no_work, order_of};
+use numbered_sums::{Work, no_work};
 use row_matrix::{KeyTable, ProductStop};
 use std::alloc::Global;
 
@@ -32,11 +33,10 @@ fn shared_column(
     ring: &Ring,
     induced: &Induced<'_>,
     columns: &[Vect],
-    numbers: &KeyTable,
     key: &Key,
-    products: &[Product],
+    products: &Products,
     terms: &[(Key, u32)],
-    order: &Order,
+    places: &[u32],
     start: &[(u32, u32)],
     taken: &mut Vec<(u32, u32)>,
     work: &mut Work,
@@ -44,20 +44,18 @@ fn shared_column(
     requires over { induced.now.ring ≡ ring.now }
     requires monomial { IsMonomialOver ring.now key.now.monomial }
     requires base { AreFreeMembersZero ring.now columns.now }
-    requires products { Each (IsLastProduct ring.now columns.now numbers.now) products.now }
-    requires terms { terms.now ≡ map product_term products.now }
+    requires products { AreLastProducts ring.now columns.now products.now }
+    requires terms { terms.now ≡ map product_term products.now.list.items }
     requires descend { let n = variables ring.now in Descends (tower_comparison induced.now n) (sum_of n terms.now) }
-    requires start { IsProductUpToFree ring.now columns.now numbers.now key.now.position key.now.monomial start.now }
-    requires count { length work.old.sums.items ≡ length numbers.now }
+    requires start { IsProductUpToFree ring.now columns.now products.now.numbers key.now.position key.now.monomial start.now }
+    requires count { length work.old.sums.items ≡ length products.now.numbers }
     requires idle { AreZeroSums work.old.sums.items }
     ensures made { IfOk result (λ made. IfSome made (IsColumnMade ring.now columns.now induced.now key.now)) }
     ensures idle { IfOk result (λ made. IfSome made (λ _. AreZeroSums work.new.sums.items)) }
-    ensures count { IfOk result (λ made. IfSome made (λ _. length work.new.sums.items ≡ length numbers.now)) }
+    ensures count { IfOk result (λ made. IfSome made (λ _. length work.new.sums.items ≡ length products.now.numbers)) }
 {
     ring.modulus.domain();
-    let done = take_quotients(
-        ring, columns, numbers, key, products, order, start, taken, work,
-    )?;
+    let done = take_quotients(ring, columns, key, products, places, start, taken, work)?;
     if !done {
         return Ok(None);
     }
@@ -82,31 +80,31 @@ fn columns_by(
     ring: &Ring,
     induced: &Induced<'_>,
     columns: &[Vect],
-    numbers: &KeyTable,
     keys: &[Key],
-    products: &[Product],
+    products: &Products,
     terms: &[(Key, u32)],
-    order: &Order,
-    starts: &[Vec<(u32, u32)>],
+    places: &[u32],
+    starts: &[Stretch],
     work: &mut Work,
 ) -> Result<Option<Vec<Vect>>, NoMemory>
     requires over { induced.now.ring ≡ ring.now }
     requires base { AreFreeMembersZero ring.now columns.now }
     requires monomials { Each (λ k. IsMonomialOver ring.now k.monomial) keys.now }
-    requires products { Each (IsLastProduct ring.now columns.now numbers.now) products.now }
-    requires terms { terms.now ≡ map product_term products.now }
+    requires products { AreLastProducts ring.now columns.now products.now }
+    requires terms { terms.now ≡ map product_term products.now.list.items }
     requires descend { let n = variables ring.now in Descends (tower_comparison induced.now n) (sum_of n terms.now) }
-    requires starts { AreStarts ring.now columns.now numbers.now keys.now (length keys.now) (entry_lists starts.now) }
-    requires count { length work.old.sums.items ≡ length numbers.now }
+    requires starts { AreStarts ring.now columns.now products.now.numbers products.now.entries.items keys.now (length keys.now) starts.now }
+    requires count { length work.old.sums.items ≡ length products.now.numbers }
     requires idle { AreZeroSums work.old.sums.items }
     ensures { IfOk result (λ made. IfSome made (λ next. AreColumnsMade ring.now columns.now induced.now keys.now (length keys.now) next.items)) }
 {
     let mut next = Vec::with_capacity(alloc, keys.len())?;
     let mut taken = Vec::new(alloc);
     for i in 0..keys.len() {
+        let start = row_of(&products.entries, starts[i]);
         match shared_column(
-            alloc, ring, induced, columns, numbers, &keys[i], products, terms, order, &starts[i],
-            &mut taken, work,
+            alloc, ring, induced, columns, &keys[i], products, terms, places, start, &mut taken,
+            work,
         )? {
             None => return Ok(None),
             Some(made) => push_column(made, &mut next)?,
@@ -115,15 +113,25 @@ fn columns_by(
     Ok(Some(next))
 }
 
-// About how many keys get numbers: as many as the products have terms with which these columns start.
-fn start_terms(columns: &[Vect], keys: &[Key]) -> usize
-    requires { Each (λ k. k.position < length columns.now) keys.now }
+// No products yet. Mostly there are fewer than four times as many as columns to be made, and half as many as entries.
+fn no_products(
+    alloc: Global,
+    ring: &Ring,
+    columns: &[Vect],
+    count: usize,
+) -> Result<Products, NoMemory>
+    ensures part { IfOk result (ArePartProducts ring.now columns.now) }
+    ensures none { IfOk result (λ x. x.list.items ≡ []) }
 {
-    let mut count: usize = 0;
-    for key in keys {
-        count = count.saturating_add(columns[key.position as usize].terms().len());
-    }
-    count
+    let _ring = ring;
+    let _columns = columns;
+    let room = count.saturating_mul(4);
+    Ok(Products {
+        numbers: KeyTable::with_room(alloc, room)?,
+        free: Vec::with_capacity(alloc, room)?,
+        list: Vec::with_capacity(alloc, room)?,
+        entries: Vec::with_capacity(alloc, room.saturating_mul(2))?,
+    })
 }
 
 // The columns with these leads; none where a test fails.
@@ -151,31 +159,19 @@ fn made_columns<F: Frame>(
     if keys.is_empty() {
         return Ok(Some(Vec::new(alloc)));
     }
-    let hashes = column_hashes(alloc, columns)?;
-    let mut numbers = KeyTable::with_room(alloc, start_terms(columns, keys))?;
-    let mut starts = start_rows(alloc, ring, columns, &hashes, keys, &mut numbers)?;
-    let mut free = Vec::with_capacity(alloc, numbers.len())?;
-    let mut products = all_products(
-        alloc,
-        ring,
-        columns,
-        index,
-        &hashes,
-        &mut numbers,
-        &mut free,
-    )?;
-    cut_products(ring, columns, &numbers, &free, &mut products);
-    cut_starts(ring, columns, &numbers, &free, keys, &mut starts);
-    let order = order_of(alloc, frame, &numbers, &products)?;
-    sort_products(ring, columns, &numbers, &order, &mut products);
-    let terms = product_terms(alloc, &products)?;
+    let marks = column_marks(alloc, columns, index)?;
+    let mut products = no_products(alloc, ring, columns, keys.len())?;
+    let starts = start_rows(alloc, ring, columns, index, &marks, keys, &mut products)?;
+    all_rows(alloc, ring, columns, index, &marks, &mut products)?;
+    let places = places_of(alloc, frame, &products.numbers, &products.list)?;
+    sort_products(&places, &mut products.list);
+    let terms = product_terms(alloc, &products.list)?;
     if !descends(induced, &terms) {
         return Ok(None);
     }
-    let mut work = no_work(alloc, numbers.len())?;
+    let mut work = no_work(alloc, products.numbers.len())?;
     let made = columns_by(
-        alloc, ring, induced, columns, &numbers, keys, &products, &terms, &order, &starts,
-        &mut work,
+        alloc, ring, induced, columns, keys, &products, &terms, &places, &starts, &mut work,
     )?;
     Ok(made)
 }

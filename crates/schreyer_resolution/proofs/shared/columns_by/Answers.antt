@@ -1,13 +1,11 @@
-use Rattle.std.proofs.Common.{[], ap, arith, get_or, length, subst, sym, ℕ, ◌+◌, ◌<◌, ◌∙◌, ◌≡◌}
-use Rattle.std.specs.Prelude.{IfSome, List, Vec}
-use Rattle.std.specs.Global.{Global}
-use Rattle.std.proofs.lemmas.List.{length-map}
-use Rattle.row_matrix.specs.Rows.{Entry}
-use Rattle.induced_leads.proofs.Pushing.{get_or-map}
+use Rattle.std.proofs.Common.{ap, arith, get_or, length, subst, sym, ◌+◌, ◌∙◌, ◌≡◌}
+use Rattle.std.specs.Prelude.{IfSome}
+use Rattle.std.proofs.lemmas.List.{get_or_default}
+use Rattle.row_matrix.specs.Hashes.{no_key}
 use Rattle.numbered_sums.specs.KeySums.{AreZeroSums}
 use Rattle.schreyer_resolution.proofs.SharedColumns.{made_next, made_none}
 use Rattle.schreyer_resolution.specs.FreeKeys.{IsProductUpToFree}
-use Rattle.schreyer_resolution.specs.Sharing.{AreColumnsMade, IsColumnMade, entry_lists}
+use Rattle.schreyer_resolution.specs.Sharing.{AreColumnsMade, IsColumnMade, no_stretch, row_at}
 use Rattle.schreyer_resolution.proofs.shared.columns_by.Goals as goal
 
 pub loop-i-init : goal.loop-i-init
@@ -31,23 +29,32 @@ loop-i-preserved c =
     record {
       made = subst (AreColumnsMade ring cols t keys (i + 1)) (sym c.in_ok-push_column-in-Some.ensures)
           (made_next ring cols t keys i c.loop-i.next.items v key c.loop-i.invariant.made c.loop-i-test.true c.index-keys-i.is made);
-      count = subst (λ o. IfSome o (λ _. length new ≡ length c.args.numbers.now)) c.in-Some.is c.in_ok-shared_column.ensures.count;
+      count = subst (λ o. IfSome o (λ _. length new ≡ length c.args.products.now.numbers)) c.in-Some.is c.in_ok-shared_column.ensures.count;
       idle = subst (λ o. IfSome o (λ _. AreZeroSums new)) c.in-Some.is c.in_ok-shared_column.ensures.idle;
     }
+
+pub row_of-start-requires-clause-from : goal.row_of-start-requires-clause-from
+row_of-start-requires-clause-from c =
+    let keys = c.args.keys.now in
+    let i = c.loop-i.i in
+    let k = get_or keys i no_key in
+    (c.requires.starts.each i k c.loop-i-test.true (get_or_default keys i no_key k c.loop-i-test.true)).from
+
+pub row_of-start-requires-clause-inside : goal.row_of-start-requires-clause-inside
+row_of-start-requires-clause-inside c =
+    let keys = c.args.keys.now in
+    let i = c.loop-i.i in
+    let k = get_or keys i no_key in
+    let inside = (c.requires.starts.each i k c.loop-i-test.true (get_or_default keys i no_key k c.loop-i-test.true)).inside in
+    omega (arith, inside, ap length c.deref.ensures.value)
 
 pub shared_column-requires-clause-start : goal.shared_column-requires-clause-start
 shared_column-requires-clause-start c =
     let key = c.index-keys-i.result in
-    let starts = c.args.starts.now in
     let i = c.loop-i.i in
-    let row = c.index-starts-i.result in
-    let view : Vec (ℕ × ℕ) Global → List Entry = λ r. r.items in
-    let sized = c.requires.starts.sized in
-    let lt : i < length starts = omega (arith, c.loop-i-test.true, sized, length-map starts view) in
-    let is : get_or (entry_lists starts) i [] ≡ c.deref.result.now =
-    get_or-map view starts i row [] lt ∙ ap view (sym c.index-starts-i.is) ∙ sym c.deref.ensures.value in
-    subst (IsProductUpToFree c.args.ring.now c.args.columns.now c.args.numbers.now key.position key.monomial) is
-    (c.requires.starts.each i key c.loop-i-test.true c.index-keys-i.is)
+    subst (IsProductUpToFree c.args.ring.now c.args.columns.now c.args.products.now.numbers key.position key.monomial)
+    (sym (c.row_of-start.ensures ∙ ap (λ es. row_at es (get_or c.args.starts.now i no_stretch)) c.deref.ensures.value))
+    (c.requires.starts.each i key c.loop-i-test.true c.index-keys-i.is).row
 
 pub returns : goal.returns
 returns c =

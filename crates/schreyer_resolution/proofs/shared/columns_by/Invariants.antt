@@ -6,6 +6,6 @@ use Rattle.schreyer_resolution.proofs.shared.columns_by.Given as goal
 abbrev pub invariant-loop-i : goal.invariant-loop-i
 invariant-loop-i l = record {
   made : AreColumnsMade l.ring l.columns l.induced l.keys l.i l.next.items;
-  count : length l.work.sums.items ≡ length l.numbers;
+  count : length l.work.sums.items ≡ length l.products.numbers;
   idle : AreZeroSums l.work.sums.items;
 }

@@ -20,7 +20,7 @@ pub taken_terms-requires-clause-terms : goal.taken_terms-requires-clause-terms
 taken_terms-requires-clause-terms c =
     subst (λ r. Each (λ t. IsMonomialOver r t.0.monomial) c.args.terms.now) (sym c.requires.over)
     (subst (Each (λ t. IsMonomialOver c.args.ring.now t.0.monomial)) (sym c.requires.terms)
-    (terms_over c.args.ring.now c.args.columns.now c.args.numbers.now c.args.products.now c.requires.products))
+    (terms_over c.args.ring.now c.args.columns.now c.args.products.now.numbers c.args.products.now.entries.items c.args.products.now.list.items c.requires.products))
 
 pub taken_terms-requires-clause-descend : goal.taken_terms-requires-clause-descend
 taken_terms-requires-clause-descend c =
@@ -32,7 +32,7 @@ taken_terms-requires-clause-reduced c =
     let ring = c.args.ring.now in
     let taken = c.take_quotients.new.taken.items in
     subst₂ (λ (r : Ring) (es : List (ℕ × ℕ)). Each (λ e. e.1 < r.modulus.value) es) (sym c.requires.over) (sym c.deref.ensures.value)
-    (residues_small ring c.args.columns.now (map product_term c.args.products.now) taken (c.in_ok-done.ensures.quotients c.if-not-done.false).each)
+    (residues_small ring c.args.columns.now (map product_term c.args.products.now.list.items) taken (c.in_ok-done.ensures.quotients c.if-not-done.false).each)
 
 pub from_ordered-requires : goal.from_ordered-requires
 from_ordered-requires c =
@@ -50,7 +50,7 @@ from_ordered-requires c =
     let n = variables t.ring in
     let descend = subst (λ o. IfSome o (λ m. Descends (tower_comparison t n) (sum_of n m.items))) c.in-Some.is c.in_ok-found.ensures.descend in
     subst (λ r. IsVectorOver r (tower_comparison t) made) (sym c.requires.over)
-    (made_of ring c.args.columns.now t key c.args.products.now terms taken made c.domain.ensures.above_one c.requires.monomial c.requires.over c.requires.terms
+    (made_of ring c.args.columns.now t key c.args.products.now.list.items terms taken made c.domain.ensures.above_one c.requires.monomial c.requires.over c.requires.terms
     (c.in_ok-done.ensures.quotients c.if-not-done.false) is descend).vector
 
 pub returns-in-Some-clause-made : goal.returns-in-Some-clause-made
@@ -69,5 +69,5 @@ returns-in-Some-clause-made c =
     let n = variables t.ring in
     let descend = subst (λ o. IfSome o (λ m. Descends (tower_comparison t n) (sum_of n m.items))) c.in-Some.is c.in_ok-found.ensures.descend in
     subst (IsColumnMade ring c.args.columns.now t key) (sym c.from_ordered.ensures)
-    (made_of ring c.args.columns.now t key c.args.products.now terms taken made c.domain.ensures.above_one c.requires.monomial c.requires.over c.requires.terms
+    (made_of ring c.args.columns.now t key c.args.products.now.list.items terms taken made c.domain.ensures.above_one c.requires.monomial c.requires.over c.requires.terms
     (c.in_ok-done.ensures.quotients c.if-not-done.false) is descend)

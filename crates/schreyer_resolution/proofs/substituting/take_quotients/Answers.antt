@@ -38,15 +38,15 @@ take_all-requires-clause-taken c =
     subst (λ xs. AddsProduct p 1 c.args.start.now xs new) c.as_mut_slice.ensures.value c.in_ok-add_multiple.ensures.adds in
     let count : length new ≡ length sums.items = adds.count in
     let whole : sums.len ≡ length new = omega (arith, count, c.as_mut_slice.ensures.len, ap length c.as_mut_slice.ensures.value) in
-    let start = taken_start ring c.args.columns.now c.args.numbers.now c.args.key.now c.args.start.now sums.items new c.add_multiple.new.touched.items
+    let start = taken_start ring c.args.columns.now c.args.products.now.numbers c.args.key.now c.args.start.now sums.items new c.add_multiple.new.touched.items
     c.requires.count c.requires.idle c.requires.start adds c.in_ok-add_multiple.ensures.small c.in_ok-add_multiple.ensures.touched in
-    subst₂ (λ qs ns. AreTakenQuotients ring c.args.columns.now c.args.numbers.now c.args.key.now qs ns c.add_multiple.new.touched.items)
-    (sym (ap (quotients_at c.args.products.now) c.clear.ensures.items)) (sym (written_back sums.len new sums.items whole)) start
+    subst₂ (λ qs ns. AreTakenQuotients ring c.args.columns.now c.args.products.now.numbers c.args.key.now qs ns c.add_multiple.new.touched.items)
+    (sym (ap (quotients_at c.args.products.now.list.items) c.clear.ensures.items)) (sym (written_back sums.len new sums.items whole)) start
 
 pub returns-clause-quotients : goal.returns-clause-quotients
 returns-clause-quotients c = λ none.
     let n = variables c.args.ring.now in
     let one : 1 < c.args.ring.now.modulus.value = c.domain.ensures.above_one in
-    taken_all c.args.ring.now c.args.columns.now c.args.numbers.now c.args.key.now
-    (quotients_at c.args.products.now c.take_all.new.taken.items) c.take_all.new.work.sums.items c.take_all.new.work.touched.items (omega (arith, one)) c.requires.base c.in_ok-take_all.ensures
-    (c.clear_sums.ensures.same n (column_key n c.args.numbers.now) none)
+    taken_all c.args.ring.now c.args.columns.now c.args.products.now.numbers c.args.key.now
+    (quotients_at c.args.products.now.list.items c.take_all.new.taken.items) c.take_all.new.work.sums.items c.take_all.new.work.touched.items (omega (arith, one)) c.requires.base c.in_ok-take_all.ensures
+    (c.clear_sums.ensures.same n (column_key n c.args.products.now.numbers) none)
