@@ -113,7 +113,17 @@ fn columns_by(
     Ok(Some(next))
 }
 
-// No products yet. Mostly there are fewer than four times as many as columns to be made, and half as many as entries.
+// How many terms the columns have.
+fn count_terms(columns: &[Vect]) -> usize {
+    let mut count: usize = 0;
+    for column in columns {
+        count = count.saturating_add(column.terms().len());
+    }
+    count
+}
+
+// No products yet. There is room for eight times as many as columns to be made, and for twice as many entries as the columns have terms:
+// mostly there are fewer.
 fn no_products(
     alloc: Global,
     ring: &Ring,
@@ -121,16 +131,14 @@ fn no_products(
     count: usize,
 ) -> Result<Products, NoMemory>
     ensures part { IfOk result (ArePartProducts ring.now columns.now) }
-    ensures none { IfOk result (λ x. x.list.items ≡ []) }
 {
     let _ring = ring;
-    let _columns = columns;
-    let room = count.saturating_mul(4);
+    let room = count.saturating_mul(8);
     Ok(Products {
         numbers: KeyTable::with_room(alloc, room)?,
         free: Vec::with_capacity(alloc, room)?,
         list: Vec::with_capacity(alloc, room)?,
-        entries: Vec::with_capacity(alloc, room.saturating_mul(2))?,
+        entries: Vec::with_capacity(alloc, count_terms(columns).saturating_mul(2))?,
     })
 }
 
