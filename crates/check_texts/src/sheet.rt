@@ -3,11 +3,14 @@ ghost use Rattle.std.specs.Prelude.{◌↔◌, IsTrue};
 ghost use Rattle.formal_sums.specs.FormalSums.{Each};
 ghost use Rattle.term_lists.specs.Vectors.{HasVariables};
 
+use byte_ports::StdSink;
 use cofactor_track::Member;
+use line_text::{LineText, NoMemory, Pieces};
 use module_vectors::{Key, Ring, Vect};
 use monomial_orders::Mono;
 use poly_text::{push_entries, push_number, push_vect};
 use std::alloc::Global;
+use std::mem::replace;
 
 // Has each term so many exponents?
 fn have_variables(terms: &[(Key, u32)], count: usize) -> bool
@@ -26,6 +29,7 @@ fn have_variables(terms: &[(Key, u32)], count: usize) -> bool
 pub struct Sheet {
     alloc: Global,
     bytes: Vec<u8>,
+    line: LineText,
     is_whole: bool,
 }
 
@@ -35,6 +39,7 @@ impl Sheet {
         Sheet {
             alloc,
             bytes: Vec::new(alloc),
+            line: LineText::new(alloc),
             is_whole: true,
         }
     }
@@ -57,11 +62,24 @@ impl Sheet {
         }
     }
 
-    /// Writes a number.
-    pub fn number(&mut self, number: i128) {
-        if push_number(self.alloc, &mut self.bytes, number).is_err() {
+    // Writes what stands in the line, if it is whole, and clears that.
+    fn take_line(&mut self, written: Result<(), NoMemory>) {
+        let Ok(mut pieces) = Pieces::new(self.alloc) else {
+            self.is_whole = false;
+            return;
+        };
+        let mut sink = StdSink::new(replace(&mut self.bytes, Vec::new(self.alloc)));
+        if written.is_err() || self.line.write_to(&mut pieces, &mut sink).is_err() {
             self.is_whole = false;
         }
+        self.bytes = sink.into_parts().0;
+        self.line.clear();
+    }
+
+    /// Writes a number.
+    pub fn number(&mut self, number: i128) {
+        let written = push_number(self.alloc, &mut self.line, number);
+        self.take_line(written);
     }
 
     /// Writes a text and a number.
@@ -118,8 +136,9 @@ impl Sheet {
     pub fn vector(&mut self, ring: &Ring, rank: u128, v: &Vect) {
         if !have_variables(v.terms(), ring.vars.len()) {
             self.text("no vector of the ring");
-        } else if push_vect(self.alloc, &mut self.bytes, ring, rank, v).is_err() {
-            self.is_whole = false;
+        } else {
+            let written = push_vect(self.alloc, &mut self.line, ring, rank, v);
+            self.take_line(written);
         }
     }
 
@@ -140,8 +159,9 @@ impl Sheet {
         self.text(" by ");
         if !have_variables(factors.terms(), ring.vars.len()) {
             self.text("no vector of the ring");
-        } else if push_entries(self.alloc, &mut self.bytes, ring, count, factors).is_err() {
-            self.is_whole = false;
+        } else {
+            let written = push_entries(self.alloc, &mut self.line, ring, count, factors);
+            self.take_line(written);
         }
     }
 

@@ -5,7 +5,8 @@ use Rattle.std.proofs.lemmas.List.{append-nil, drop_more, drop_all}
 use Rattle.std.proofs.lemmas.Bool.Decides.{nat_tests}
 use Rattle.term_lists.specs.declared.key.Key.{Key}
 use Rattle.poly_text.specs.Texts.{terms_at, entry_texts, joined, poly_text, term_text}
-use Rattle.poly_text.specs.Writing.{AscendsFrom, IsStretch, between, entries_rest, later_entries, tails, terms_rest, zero_entries}
+use Rattle.line_text.specs.Texts.{zero_entries}
+use Rattle.poly_text.specs.Writing.{AscendsFrom, IsStretch, between, entries_rest, later_entries, tails, terms_rest}
 use Rattle.poly_text.proofs.Writing.{joined_cons}
 use Rattle.poly_text.proofs.Runs.{zeros_before}
 

@@ -1,8 +1,9 @@
 -- Texts as they are written, from left to right
-use Rattle.std.specs.Prelude.{Bool, List, [], codes, false, map, replicate, suc, true, zero, ⊤, ℕ, ◌≢◌, ◌≤◌, ◌+◌, ◌-◌, ◌++◌, ◌∷◌, ◌==◌, ◌≡◌, if◌then◌else◌}
+use Rattle.std.specs.Prelude.{Bool, List, [], codes, false, map, suc, true, zero, ⊤, ℕ, ◌≢◌, ◌≤◌, ◌+◌, ◌-◌, ◌++◌, ◌∷◌, ◌==◌, ◌≡◌, if◌then◌else◌}
 use Rattle.std.specs.List.{range_with_len}
 use Rattle.std.specs.Fmt.{decimal}
 use Rattle.term_lists.specs.declared.key.Key.{Key}
+use Rattle.line_text.specs.Texts.{zero_entries}
 use Rattle.poly_text.specs.Texts.{poly_text, term_text, terms_at}
 
 -- new is old with more behind it
@@ -48,10 +49,6 @@ abbrev pub IsStretch : ℕ → List (Key × ℕ) → ℕ → Type 0
 IsStretch p [] k = k ≡ 0
 IsStretch p (t ∷ ts) zero = t.0.position ≢ p
 IsStretch p (t ∷ ts) (suc k) = (t.0.position ≡ p) × IsStretch p ts k
-
--- so many entries 0, each behind a comma
-abbrev pub zero_entries : ℕ → List ℕ
-zero_entries n = tails 44 (replicate n (codes "0"))
 
 -- what stands between two terms that follow one another: + in one entry, else a comma, behind the entries between theirs
 abbrev pub between : ℕ → ℕ → List ℕ

@@ -9,28 +9,26 @@ ghost use Rattle.term_lists.specs.Vectors.{HasVariables};
 ghost use Rattle.poly_text.specs.Texts.{entries_text, list_text, names_of, poly_text, vector_text};
 
 use itoa::Buffer;
+use line_text::{LineText, NoMemory, whole_or_none};
 use list::append_list;
 use module_vectors::{Ring, Vect, VectList};
 use polynomial::append_terms;
 use std::alloc::Global;
-use undo::whole_or_none;
 use vector::append_entries;
 
+mod gaps;
 mod list;
 mod polynomial;
 mod text_laws;
-mod undo;
 mod vector;
-mod zeros;
 
-pub use no_memory::NoMemory;
 pub use text_laws::{lists, numbers, polynomials, vectors};
 
 /// Appends the text of a polynomial: its terms, the greatest first. After an error nothing is appended.
-pub fn push_poly(alloc: Global, out: &mut Vec<u8>, ring: &Ring, v: &Vect) -> Result<(), NoMemory>
+pub fn push_poly(alloc: Global, out: &mut LineText, ring: &Ring, v: &Vect) -> Result<(), NoMemory>
     requires { Each (HasVariables (variables ring.now)) v.now }
-    ensures ok { OnOk result (out.new.items ≡ out.old.items ++ poly_text (names_of ring.now) v.now) }
-    ensures err { OnErr result (out.new.items ≡ out.old.items) }
+    ensures ok { OnOk result (out.new ≡ out.old ++ poly_text (names_of ring.now) v.now) }
+    ensures err { OnErr result (out.new ≡ out.old) }
 {
     let _alloc = alloc;
     let old = out.len();
@@ -42,14 +40,14 @@ pub fn push_poly(alloc: Global, out: &mut Vec<u8>, ring: &Ring, v: &Vect) -> Res
 /// stands there, of the terms in the order in which they stand in `v`. After an error nothing is appended.
 pub fn push_entries(
     alloc: Global,
-    out: &mut Vec<u8>,
+    out: &mut LineText,
     ring: &Ring,
     rank: u128,
     v: &Vect,
 ) -> Result<(), NoMemory>
     requires { Each (HasVariables (variables ring.now)) v.now }
-    ensures ok { OnOk result (out.new.items ≡ out.old.items ++ entries_text (names_of ring.now) rank v.now) }
-    ensures err { OnErr result (out.new.items ≡ out.old.items) }
+    ensures ok { OnOk result (out.new ≡ out.old ++ entries_text (names_of ring.now) rank v.now) }
+    ensures err { OnErr result (out.new ≡ out.old) }
 {
     let _alloc = alloc;
     let old = out.len();
@@ -61,14 +59,14 @@ pub fn push_entries(
 /// appended.
 pub fn push_vect(
     alloc: Global,
-    out: &mut Vec<u8>,
+    out: &mut LineText,
     ring: &Ring,
     rank: u128,
     v: &Vect,
 ) -> Result<(), NoMemory>
     requires { Each (HasVariables (variables ring.now)) v.now }
-    ensures ok { OnOk result (out.new.items ≡ out.old.items ++ vector_text (names_of ring.now) rank v.now) }
-    ensures err { OnErr result (out.new.items ≡ out.old.items) }
+    ensures ok { OnOk result (out.new ≡ out.old ++ vector_text (names_of ring.now) rank v.now) }
+    ensures err { OnErr result (out.new ≡ out.old) }
 {
     if rank == 1 {
         return push_poly(alloc, out, ring, v);
@@ -79,14 +77,14 @@ pub fn push_vect(
 /// Appends the text of a list of vectors, each on a line of its own. After an error nothing is appended.
 pub fn push_list(
     alloc: Global,
-    out: &mut Vec<u8>,
+    out: &mut LineText,
     ring: &Ring,
     rank: u128,
     list: &VectList,
 ) -> Result<(), NoMemory>
     requires { Each (λ v. Each (HasVariables (variables ring.now)) v) list.now }
-    ensures ok { OnOk result (out.new.items ≡ out.old.items ++ list_text (names_of ring.now) rank list.now) }
-    ensures err { OnErr result (out.new.items ≡ out.old.items) }
+    ensures ok { OnOk result (out.new ≡ out.old ++ list_text (names_of ring.now) rank list.now) }
+    ensures err { OnErr result (out.new ≡ out.old) }
 {
     let old = out.len();
     let written = append_list(alloc, out, ring, rank, list.as_slice());
@@ -94,9 +92,9 @@ pub fn push_list(
 }
 
 /// Appends a number in decimal, without leading zeros, a negative one behind a `-`. After an error nothing is appended.
-pub fn push_number(alloc: Global, out: &mut Vec<u8>, n: i128) -> Result<(), NoMemory>
-    ensures ok { OnOk result (out.new.items ≡ out.old.items ++ signed_decimal n) }
-    ensures err { OnErr result (out.new.items ≡ out.old.items) }
+pub fn push_number(alloc: Global, out: &mut LineText, n: i128) -> Result<(), NoMemory>
+    ensures ok { OnOk result (out.new ≡ out.old ++ signed_decimal n) }
+    ensures err { OnErr result (out.new ≡ out.old) }
 {
     let _alloc = alloc;
     let mut buffer = Buffer::new();

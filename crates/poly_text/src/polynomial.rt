@@ -6,14 +6,14 @@ ghost use Rattle.term_lists.specs.Vectors.{HasVariables};
 ghost use Rattle.poly_text.specs.Texts.{poly_text, powers_texts, term_text};
 ghost use Rattle.poly_text.specs.Writing.{IsFront, factor_start, power_text, powers_rest};
 
-use crate::NoMemory;
 use itoa::Buffer;
+use line_text::{LineText, NoMemory};
 use module_vectors::Key;
 
 /// Appends a number.
-fn append_number(out: &mut Vec<u8>, n: u32) -> Result<(), NoMemory>
-    ensures ok { OnOk result (out.new.items ≡ out.old.items ++ decimal n) }
-    ensures err { OnErr result (out.new.items ≡ out.old.items) }
+fn append_number(out: &mut LineText, n: u32) -> Result<(), NoMemory>
+    ensures ok { OnOk result (out.new ≡ out.old ++ decimal n) }
+    ensures err { OnErr result (out.new ≡ out.old) }
 {
     if n < 10 {
         out.push(b'0' + n as u8)?;
@@ -26,13 +26,13 @@ fn append_number(out: &mut Vec<u8>, n: u32) -> Result<(), NoMemory>
 
 /// Appends a power, behind a `*` where it is not the first factor.
 fn append_power(
-    out: &mut Vec<u8>,
+    out: &mut LineText,
     started: bool,
     name: &[u8],
     exponent: u16,
 ) -> Result<(), NoMemory>
-    ensures ok { OnOk result (out.new.items ≡ out.old.items ++ (factor_start started ++ power_text name.now exponent)) }
-    ensures err { OnErr result (IsFront out.old.items out.new.items) }
+    ensures ok { OnOk result (out.new ≡ out.old ++ (factor_start started ++ power_text name.now exponent)) }
+    ensures err { OnErr result (IsFront out.old out.new) }
 {
     if started {
         out.push(b'*')?;
@@ -47,14 +47,14 @@ fn append_power(
 
 /// Appends the powers of a monomial behind the factors that stand there, or 1 where there is no factor at all.
 fn append_powers(
-    out: &mut Vec<u8>,
+    out: &mut LineText,
     vars: &[String],
     exponents: &[u16],
     started: bool,
 ) -> Result<(), NoMemory>
     requires { length exponents.now ≡ length vars.now }
-    ensures ok { OnOk result (out.new.items ≡ out.old.items ++ powers_rest started (powers_texts (map string_bytes vars.now) exponents.now)) }
-    ensures err { OnErr result (IsFront out.old.items out.new.items) }
+    ensures ok { OnOk result (out.new ≡ out.old ++ powers_rest started (powers_texts (map string_bytes vars.now) exponents.now)) }
+    ensures err { OnErr result (IsFront out.old out.new) }
 {
     let mut begun = started;
     for (i, name) in vars.iter().enumerate() {
@@ -75,10 +75,10 @@ fn append_powers(
 }
 
 /// Appends a term: its residue, which is left out before a power where it is 1, and its powers.
-pub fn append_term(out: &mut Vec<u8>, vars: &[String], term: &(Key, u32)) -> Result<(), NoMemory>
+pub fn append_term(out: &mut LineText, vars: &[String], term: &(Key, u32)) -> Result<(), NoMemory>
     requires { HasVariables (length vars.now) term.now }
-    ensures ok { OnOk result (out.new.items ≡ out.old.items ++ term_text (map string_bytes vars.now) term.now) }
-    ensures err { OnErr result (IsFront out.old.items out.new.items) }
+    ensures ok { OnOk result (out.new ≡ out.old ++ term_text (map string_bytes vars.now) term.now) }
+    ensures err { OnErr result (IsFront out.old out.new) }
 {
     let residue = term.1;
     let exponents = term.0.monomial.exponents();
@@ -92,13 +92,13 @@ pub fn append_term(out: &mut Vec<u8>, vars: &[String], term: &(Key, u32)) -> Res
 
 /// Appends a polynomial: its terms, the greatest first.
 pub fn append_terms(
-    out: &mut Vec<u8>,
+    out: &mut LineText,
     vars: &[String],
     terms: &[(Key, u32)],
 ) -> Result<(), NoMemory>
     requires { Each (HasVariables (length vars.now)) terms.now }
-    ensures ok { OnOk result (out.new.items ≡ out.old.items ++ poly_text (map string_bytes vars.now) terms.now) }
-    ensures err { OnErr result (IsFront out.old.items out.new.items) }
+    ensures ok { OnOk result (out.new ≡ out.old ++ poly_text (map string_bytes vars.now) terms.now) }
+    ensures err { OnErr result (IsFront out.old out.new) }
 {
     let Some((first, rest)) = terms.split_first() else {
         out.push(b'0')?;

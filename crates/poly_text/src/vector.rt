@@ -5,21 +5,21 @@ ghost use Rattle.term_lists.specs.Vectors.{HasVariables};
 ghost use Rattle.poly_text.specs.Texts.{terms_at, entries_text, entry_texts, joined, poly_text, term_text};
 ghost use Rattle.poly_text.specs.Writing.{AscendsFrom, IsFront, IsStretch, entries_rest, later_entries, term_start};
 
-use crate::NoMemory;
+use crate::gaps::append_between;
 use crate::polynomial::{append_term, append_terms};
-use crate::zeros::{append_between, append_gap, append_zeros};
+use line_text::{LineText, NoMemory};
 use module_vectors::Key;
 
 /// Appends a term, behind a `+` where it is not the first.
 fn append_next_term(
-    out: &mut Vec<u8>,
+    out: &mut LineText,
     vars: &[String],
     begun: bool,
     term: &(Key, u32),
 ) -> Result<(), NoMemory>
     requires { HasVariables (length vars.now) term.now }
-    ensures ok { OnOk result (out.new.items ≡ out.old.items ++ (term_start begun ++ term_text (map string_bytes vars.now) term.now)) }
-    ensures err { OnErr result (IsFront out.old.items out.new.items) }
+    ensures ok { OnOk result (out.new ≡ out.old ++ (term_start begun ++ term_text (map string_bytes vars.now) term.now)) }
+    ensures err { OnErr result (IsFront out.old out.new) }
 {
     if begun {
         out.push(b'+')?;
@@ -29,14 +29,14 @@ fn append_next_term(
 
 /// Appends the polynomial at a position, of terms in any order of positions.
 fn append_entry(
-    out: &mut Vec<u8>,
+    out: &mut LineText,
     vars: &[String],
     position: u128,
     terms: &[(Key, u32)],
 ) -> Result<(), NoMemory>
     requires { Each (HasVariables (length vars.now)) terms.now }
-    ensures ok { OnOk result (out.new.items ≡ out.old.items ++ poly_text (map string_bytes vars.now) (terms_at position terms.now)) }
-    ensures err { OnErr result (IsFront out.old.items out.new.items) }
+    ensures ok { OnOk result (out.new ≡ out.old ++ poly_text (map string_bytes vars.now) (terms_at position terms.now)) }
+    ensures err { OnErr result (IsFront out.old out.new) }
 {
     let mut begun = false;
     for term in terms {
@@ -82,22 +82,22 @@ fn nearer(from: u128, position: u128, bound: u128) -> u128
 
 /// Appends the entries from the second on, each behind a comma, of terms in any order of positions.
 fn append_later(
-    out: &mut Vec<u8>,
+    out: &mut LineText,
     vars: &[String],
     rank: u128,
     terms: &[(Key, u32)],
 ) -> Result<(), NoMemory>
     requires { Each (HasVariables (length vars.now)) terms.now }
-    ensures ok { OnOk result (out.new.items ≡ out.old.items ++ later_entries (map string_bytes vars.now) 1 (rank - 1) terms.now) }
-    ensures err { OnErr result (IsFront out.old.items out.new.items) }
+    ensures ok { OnOk result (out.new ≡ out.old ++ later_entries (map string_bytes vars.now) 1 (rank - 1) terms.now) }
+    ensures err { OnErr result (IsFront out.old out.new) }
 {
     let mut next = 1;
     while next < rank {
         let position = next_position(terms, next, rank);
         if position == rank {
-            return append_zeros(out, rank - next);
+            return out.push_zeros(rank - next);
         }
-        match append_gap(out, position - next) {
+        match out.push_gap(position - next) {
             Ok(()) => {}
             Err(early) => return Err(early),
         }
@@ -112,14 +112,14 @@ fn append_later(
 
 /// Appends the entries, of terms in any order of positions.
 fn append_scattered(
-    out: &mut Vec<u8>,
+    out: &mut LineText,
     vars: &[String],
     rank: u128,
     terms: &[(Key, u32)],
 ) -> Result<(), NoMemory>
     requires { Each (HasVariables (length vars.now)) terms.now }
-    ensures ok { OnOk result (out.new.items ≡ out.old.items ++ joined 44 (entry_texts (map string_bytes vars.now) rank terms.now)) }
-    ensures err { OnErr result (IsFront out.old.items out.new.items) }
+    ensures ok { OnOk result (out.new ≡ out.old ++ joined 44 (entry_texts (map string_bytes vars.now) rank terms.now)) }
+    ensures err { OnErr result (IsFront out.old out.new) }
 {
     if rank == 0 {
         return Ok(());
@@ -160,7 +160,7 @@ fn run_length(terms: &[(Key, u32)], position: u128) -> usize
 
 /// Appends the rest of the entries where one has begun, of terms whose positions ascend from its own.
 fn append_rest(
-    out: &mut Vec<u8>,
+    out: &mut LineText,
     vars: &[String],
     rank: u128,
     begun: u128,
@@ -169,14 +169,14 @@ fn append_rest(
     requires variables { Each (HasVariables (length vars.now)) terms.now }
     requires ascending { AscendsFrom begun terms.now }
     requires within { begun < rank }
-    ensures ok { OnOk result (out.new.items ≡ out.old.items ++ entries_rest (map string_bytes vars.now) begun (rank - (begun + 1)) terms.now) }
-    ensures err { OnErr result (IsFront out.old.items out.new.items) }
+    ensures ok { OnOk result (out.new ≡ out.old ++ entries_rest (map string_bytes vars.now) begun (rank - (begun + 1)) terms.now) }
+    ensures err { OnErr result (IsFront out.old out.new) }
 {
     let mut last = begun;
     for term in terms {
         let position = u128::from(term.0.position);
         if position >= rank {
-            return append_zeros(out, rank - last - 1);
+            return out.push_zeros(rank - last - 1);
         }
         match append_between(out, last, position) {
             Ok(()) => {}
@@ -188,20 +188,20 @@ fn append_rest(
         }
         last = position;
     }
-    append_zeros(out, rank - last - 1)
+    out.push_zeros(rank - last - 1)
 }
 
 /// Appends the entries, of terms whose positions ascend: the terms of the first entry stand at the front.
 fn append_runs(
-    out: &mut Vec<u8>,
+    out: &mut LineText,
     vars: &[String],
     rank: u128,
     terms: &[(Key, u32)],
 ) -> Result<(), NoMemory>
     requires variables { Each (HasVariables (length vars.now)) terms.now }
     requires ascending { AscendsFrom 0 terms.now }
-    ensures ok { OnOk result (out.new.items ≡ out.old.items ++ joined 44 (entry_texts (map string_bytes vars.now) rank terms.now)) }
-    ensures err { OnErr result (IsFront out.old.items out.new.items) }
+    ensures ok { OnOk result (out.new ≡ out.old ++ joined 44 (entry_texts (map string_bytes vars.now) rank terms.now)) }
+    ensures err { OnErr result (IsFront out.old out.new) }
 {
     if rank == 0 {
         return Ok(());
@@ -213,14 +213,14 @@ fn append_runs(
 
 /// Appends the entries.
 fn append_each(
-    out: &mut Vec<u8>,
+    out: &mut LineText,
     vars: &[String],
     rank: u128,
     terms: &[(Key, u32)],
 ) -> Result<(), NoMemory>
     requires { Each (HasVariables (length vars.now)) terms.now }
-    ensures ok { OnOk result (out.new.items ≡ out.old.items ++ joined 44 (entry_texts (map string_bytes vars.now) rank terms.now)) }
-    ensures err { OnErr result (IsFront out.old.items out.new.items) }
+    ensures ok { OnOk result (out.new ≡ out.old ++ joined 44 (entry_texts (map string_bytes vars.now) rank terms.now)) }
+    ensures err { OnErr result (IsFront out.old out.new) }
 {
     if ascends(terms) {
         return append_runs(out, vars, rank, terms);
@@ -230,14 +230,14 @@ fn append_each(
 
 /// Appends the entries in brackets.
 pub fn append_entries(
-    out: &mut Vec<u8>,
+    out: &mut LineText,
     vars: &[String],
     rank: u128,
     terms: &[(Key, u32)],
 ) -> Result<(), NoMemory>
     requires { Each (HasVariables (length vars.now)) terms.now }
-    ensures ok { OnOk result (out.new.items ≡ out.old.items ++ entries_text (map string_bytes vars.now) rank terms.now) }
-    ensures err { OnErr result (IsFront out.old.items out.new.items) }
+    ensures ok { OnOk result (out.new ≡ out.old ++ entries_text (map string_bytes vars.now) rank terms.now) }
+    ensures err { OnErr result (IsFront out.old out.new) }
 {
     out.push(b'[')?;
     append_each(out, vars, rank, terms)?;

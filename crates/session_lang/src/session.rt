@@ -7,6 +7,7 @@ ghost use Rattle.session_lang.specs.Stops.{Steps, TrailOf};
 ghost use Rattle.session_reports.specs.declared.step.Step.TheVariants as steps;
 
 use groebner_iface::{Groebner, OpStop};
+use line_text::LineText;
 use module_vectors::{NoMemory, Ring, Vect, VectList};
 use script_parse::{NameInfo, NameTable, Operation, ParseStop, Statement, statement};
 use session_reports::{
@@ -99,9 +100,9 @@ impl Session {
     }
 
     // Prints a polynomial.
-    fn show(&self, alloc: Global, shown: &Vect, out: &mut Vec<u8>) -> Result<Step, OpStop>
+    fn show(&self, alloc: Global, shown: &Vect, out: &mut LineText) -> Result<Step, OpStop>
         requires { IsFit self.now (statements.Show shown.now) }
-        ensures { PerformedAlone self.now (statements.Show shown.now) self.now out.old.items out.new.items result }
+        ensures { PerformedAlone self.now (statements.Show shown.now) self.now out.old out.new result }
     {
         let Some(ring) = &self.ring else {
             unreachable!()
@@ -113,9 +114,9 @@ impl Session {
     }
 
     // Prints the stored list of a value.
-    fn list(&self, alloc: Global, name: &String, out: &mut Vec<u8>) -> Result<Step, OpStop>
+    fn list(&self, alloc: Global, name: &String, out: &mut LineText) -> Result<Step, OpStop>
         requires { IsFit self.now (statements.Gens name.now) }
-        ensures { PerformedAlone self.now (statements.Gens name.now) self.now out.old.items out.new.items result }
+        ensures { PerformedAlone self.now (statements.Gens name.now) self.now out.old out.new result }
     {
         let value = self.found(name.as_bytes());
         match push_listing(
@@ -140,10 +141,10 @@ impl Session {
         engine: &mut B,
         name: &String,
         question: Question<'_>,
-        out: &mut Vec<u8>,
+        out: &mut LineText,
     ) -> Result<Step, OpStop>
         requires { IsFit self.old (asking name.now (asked_of question)) }
-        ensures performed { Performed self.old (asking name.now (asked_of question.entry)) self.new out.old.items out.new.items
+        ensures performed { Performed self.old (asking name.now (asked_of question.entry)) self.new out.old out.new
             (B.stops engine.old) (B.stops engine.new) (B.stopped engine.old) (B.stopped engine.new) result }
         ensures later { B.stops engine.old ≤ B.stops engine.new }
         ensures runs { RunsStated self.old (asking name.now (asked_of question.entry)) (B.runs engine.old) (B.runs engine.new) }
@@ -175,10 +176,10 @@ impl Session {
         engine: &mut B,
         first: &String,
         second: &String,
-        out: &mut Vec<u8>,
+        out: &mut LineText,
     ) -> Result<Step, OpStop>
         requires { IsFit self.old (statements.Equal first.now second.now) }
-        ensures performed { Performed self.old (statements.Equal first.now second.now) self.new out.old.items out.new.items
+        ensures performed { Performed self.old (statements.Equal first.now second.now) self.new out.old out.new
             (B.stops engine.old) (B.stops engine.new) (B.stopped engine.old) (B.stopped engine.new) result }
         ensures later { B.stops engine.old ≤ B.stops engine.new }
         ensures runs { RunsStated self.old (statements.Equal first.now second.now) (B.runs engine.old) (B.runs engine.new) }
@@ -354,10 +355,10 @@ impl Session {
         engine: &mut B,
         name: &String,
         v: &Vect,
-        out: &mut Vec<u8>,
+        out: &mut LineText,
     ) -> Result<Step, OpStop>
         requires { IsFit self.now (statements.Lift name.now v.now) }
-        ensures performed { Performed self.now (statements.Lift name.now v.now) self.now out.old.items out.new.items
+        ensures performed { Performed self.now (statements.Lift name.now v.now) self.now out.old out.new
             (B.stops engine.old) (B.stops engine.new) (B.stopped engine.old) (B.stopped engine.new) result }
         ensures later { B.stops engine.old ≤ B.stops engine.new }
         ensures runs { RunsStated self.now (statements.Lift name.now v.now) (B.runs engine.old) (B.runs engine.new) }
@@ -384,10 +385,10 @@ impl Session {
         engine: &mut B,
         f: &Vect,
         images: &VectList,
-        out: &mut Vec<u8>,
+        out: &mut LineText,
     ) -> Result<Step, OpStop>
         requires { IsFit self.now (statements.Express f.now images.now) }
-        ensures performed { Performed self.now (statements.Express f.now images.now) self.now out.old.items out.new.items
+        ensures performed { Performed self.now (statements.Express f.now images.now) self.now out.old out.new
             (B.stops engine.old) (B.stops engine.new) (B.stopped engine.old) (B.stopped engine.new) result }
         ensures later { B.stops engine.old ≤ B.stops engine.new }
         ensures runs { RunsStated self.now (statements.Express f.now images.now) (B.runs engine.old) (B.runs engine.new) }
@@ -407,10 +408,10 @@ impl Session {
         engine: &mut B,
         name: &String,
         step: u64,
-        out: &mut Vec<u8>,
+        out: &mut LineText,
     ) -> Result<Step, OpStop>
         requires { IsFit self.old (statements.Ext name.now step) }
-        ensures performed { Performed self.old (statements.Ext name.now step) self.new out.old.items out.new.items
+        ensures performed { Performed self.old (statements.Ext name.now step) self.new out.old out.new
             (B.stops engine.old) (B.stops engine.new) (B.stopped engine.old) (B.stopped engine.new) result }
         ensures later { B.stops engine.old ≤ B.stops engine.new }
         ensures runs { RunsStated self.old (statements.Ext name.now step) (B.runs engine.old) (B.runs engine.new) }
@@ -442,10 +443,10 @@ impl Session {
         engine: &mut B,
         name: &String,
         report: Report,
-        out: &mut Vec<u8>,
+        out: &mut LineText,
     ) -> Result<Step, OpStop>
         requires { IsFit self.old (reporting name.now report) }
-        ensures performed { Performed self.old (reporting name.now report) self.new out.old.items out.new.items
+        ensures performed { Performed self.old (reporting name.now report) self.new out.old out.new
             (B.stops engine.old) (B.stops engine.new) (B.stopped engine.old) (B.stopped engine.new) result }
         ensures later { B.stops engine.old ≤ B.stops engine.new }
         ensures runs { RunsStated self.old (reporting name.now report) (B.runs engine.old) (B.runs engine.new) }
@@ -476,10 +477,10 @@ impl Session {
         alloc: Global,
         engine: &mut B,
         stated: Statement,
-        out: &mut Vec<u8>,
+        out: &mut LineText,
     ) -> Result<Step, OpStop>
         requires fit { IsFit self.old stated }
-        ensures performed { Performed self.old stated self.new out.old.items out.new.items
+        ensures performed { Performed self.old stated self.new out.old out.new
             (B.stops engine.old) (B.stops engine.new) (B.stopped engine.old) (B.stopped engine.new) result }
         ensures later { B.stops engine.old ≤ B.stops engine.new }
         ensures runs { RunsStated self.old stated (B.runs engine.old) (B.runs engine.new) }
@@ -543,11 +544,11 @@ impl Session {
         alloc: Global,
         engine: &mut B,
         line: &[u8],
-        out: &mut Vec<u8>,
+        out: &mut LineText,
     ) -> Result<Step, OpStop>
-        ensures steps { IfOk result (Steps self.old line.now self.new out.old.items out.new.items) }
+        ensures steps { IfOk result (Steps self.old line.now self.new out.old out.new) }
         ensures same { OnErr result (self.new ≡ self.old) }
-        ensures unwritten { OnErr result (out.new.items ≡ out.old.items) }
+        ensures unwritten { OnErr result (out.new ≡ out.old) }
         ensures engine { OnOk result ((B.stops engine.new ≡ B.stops engine.old) × (B.stopped engine.new ≡ B.stopped engine.old)) }
         ensures stop { IfErr result (CallStops (RunOf self.old line.now) (TrailOf self.old line.now)
             (B.stops engine.old) (B.stops engine.new) (B.stopped engine.old) (B.stopped engine.new)) }

@@ -16,6 +16,7 @@ ghost use Rattle.session_values.specs.Runs.{fresh_runs};
 ghost use Rattle.session_reports.specs.Parts.{IsRunAt, IsRunAtEither, IsRunToKeep, Keeps};
 
 use groebner_iface::{Groebner, OpStop};
+use line_text::LineText;
 use module_vectors::{NoMemory, Ring, Vect, VectList};
 use script_parse::{NameInfo, NameTable};
 use session_values::{
@@ -53,7 +54,7 @@ fn appended(written: Result<(), NoMemory>) -> Result<(), OpStop>
 // Appends the normal form of a vector. After an error nothing is appended.
 fn push_normal_form(
     alloc: Global,
-    out: &mut Vec<u8>,
+    out: &mut LineText,
     ring: &Ring,
     info: &NameInfo,
     basis: &VectList,
@@ -64,8 +65,8 @@ fn push_normal_form(
     ensures text { OnOk result ((list : List _) → IsReducedBasisOf ring.now info.now.rank list basis.now
         → (kept : Bool) → (text : List ℕ)
         × IsAnswer ring.now (record { name = string_bytes info.now.name; rank = info.now.rank; list = list; kept = kept }) (asked.normal_form v.now) text
-        × (out.new.items ≡ out.old.items ++ text)) }
-    ensures unwritten { OnErr result (out.new.items ≡ out.old.items) }
+        × (out.new ≡ out.old ++ text)) }
+    ensures unwritten { OnErr result (out.new ≡ out.old) }
     ensures stop { IfErr result (AnswerStops ring.now (asked.normal_form v.now) basis.now) }
 {
     match normal_form(alloc, ring, v, basis) {
@@ -77,7 +78,7 @@ fn push_normal_form(
 // Appends whether a vector is in the value. After an error nothing is appended.
 fn push_membership(
     alloc: Global,
-    out: &mut Vec<u8>,
+    out: &mut LineText,
     ring: &Ring,
     info: &NameInfo,
     basis: &VectList,
@@ -88,8 +89,8 @@ fn push_membership(
     ensures text { OnOk result ((list : List _) → IsReducedBasisOf ring.now info.now.rank list basis.now
         → (kept : Bool) → (text : List ℕ)
         × IsAnswer ring.now (record { name = string_bytes info.now.name; rank = info.now.rank; list = list; kept = kept }) (asked.member v.now) text
-        × (out.new.items ≡ out.old.items ++ text)) }
-    ensures unwritten { OnErr result (out.new.items ≡ out.old.items) }
+        × (out.new ≡ out.old ++ text)) }
+    ensures unwritten { OnErr result (out.new ≡ out.old) }
     ensures stop { IfErr result (AnswerStops ring.now (asked.member v.now) basis.now) }
 {
     match normal_form(alloc, ring, v, basis) {
@@ -101,7 +102,7 @@ fn push_membership(
 /// Appends the answer. After an error nothing is appended.
 pub fn push_answer(
     alloc: Global,
-    out: &mut Vec<u8>,
+    out: &mut LineText,
     ring: &Ring,
     info: &NameInfo,
     basis: &VectList,
@@ -112,8 +113,8 @@ pub fn push_answer(
     ensures text { OnOk result ((list : List _) → IsReducedBasisOf ring.now info.now.rank list basis.now
         → (kept : Bool) → (text : List ℕ)
         × IsAnswer ring.now (record { name = string_bytes info.now.name; rank = info.now.rank; list = list; kept = kept }) (asked_of question.entry) text
-        × (out.new.items ≡ out.old.items ++ text)) }
-    ensures unwritten { OnErr result (out.new.items ≡ out.old.items) }
+        × (out.new ≡ out.old ++ text)) }
+    ensures unwritten { OnErr result (out.new ≡ out.old) }
     ensures stop { IfErr result (AnswerStops ring.now (asked_of question.entry) basis.now) }
 {
     match question {
@@ -137,7 +138,7 @@ pub fn answer_value<R: Threads + Wait + Sync, B: Groebner>(
     info: &NameInfo,
     stored: &mut Stored,
     question: Question<'_>,
-    out: &mut Vec<u8>,
+    out: &mut LineText,
 ) -> Result<(), OpStop>
     requires sound { IsSound ring.now info.now.rank stored.old }
     requires over { IsAskedOver ring.now (asked_of question) }
@@ -146,8 +147,8 @@ pub fn answer_value<R: Threads + Wait + Sync, B: Groebner>(
     ensures kept { OnOk result (IsSome stored.new.basis) }
     ensures as_before { OnErr result (stored.new ≡ stored.old) }
     ensures text { OnOk result ((text : List ℕ) × IsAnswer ring.now (value_of info.now stored.old) (asked_of question.entry) text
-        × (out.new.items ≡ out.old.items ++ text)) }
-    ensures unwritten { OnErr result (out.new.items ≡ out.old.items) }
+        × (out.new ≡ out.old ++ text)) }
+    ensures unwritten { OnErr result (out.new ≡ out.old) }
     ensures same { OnOk result ((B.stops engine.new ≡ B.stops engine.old) × (B.stopped engine.new ≡ B.stopped engine.old)) }
     ensures stop { IfErr result (CallStops (IsRunToKeep ring.now (value_of info.now stored.old))
         (IsTrailOf ring.now (value_of info.now stored.old) (asked_of question.entry))
@@ -180,7 +181,7 @@ fn compare_with<R: Threads + Wait + Sync, B: Groebner>(
     names: &NameTable,
     stored: &mut Vec<Stored>,
     places: (usize, usize),
-    out: &mut Vec<u8>,
+    out: &mut LineText,
 ) -> Result<(), OpStop>
     requires sound { AreSound ring.now names.now stored.old.items }
     requires within { (places.0 < length names.now) × (places.1 < length names.now) }
@@ -191,8 +192,8 @@ fn compare_with<R: Threads + Wait + Sync, B: Groebner>(
     ensures as_before { OnErr result (stored.new.items ≡ stored.old.items) }
     ensures text { OnOk result ((e : StoredShown) → (text : List ℕ)
         × Decides (IsOneModule ring.now (get_or stored.old.items places.0 e).list (get_or stored.old.items places.1 e).list) text
-        × (out.new.items ≡ out.old.items ++ text)) }
-    ensures unwritten { OnErr result (out.new.items ≡ out.old.items) }
+        × (out.new ≡ out.old ++ text)) }
+    ensures unwritten { OnErr result (out.new ≡ out.old) }
     ensures same { OnOk result ((B.stops engine.new ≡ B.stops engine.old) × (B.stopped engine.new ≡ B.stopped engine.old)) }
     ensures stop { IfErr result (λ stop. (d : NameValue) (e : StoredShown)
         → CallStops (IsRunAt ring.now names.now stored.old.items places.1 d e) NoTrail
@@ -234,7 +235,7 @@ pub fn compare_values<R: Threads + Wait + Sync, B: Groebner>(
     names: &NameTable,
     stored: &mut Vec<Stored>,
     places: (usize, usize),
-    out: &mut Vec<u8>,
+    out: &mut LineText,
 ) -> Result<(), OpStop>
     requires sound { AreSound ring.now names.now stored.old.items }
     requires within { (places.0 < length names.now) × (places.1 < length names.now) }
@@ -244,8 +245,8 @@ pub fn compare_values<R: Threads + Wait + Sync, B: Groebner>(
     ensures as_before { OnErr result (stored.new.items ≡ stored.old.items) }
     ensures text { OnOk result ((e : StoredShown) → (text : List ℕ)
         × Decides (IsOneModule ring.now (get_or stored.old.items places.0 e).list (get_or stored.old.items places.1 e).list) text
-        × (out.new.items ≡ out.old.items ++ text)) }
-    ensures unwritten { OnErr result (out.new.items ≡ out.old.items) }
+        × (out.new ≡ out.old ++ text)) }
+    ensures unwritten { OnErr result (out.new ≡ out.old) }
     ensures same { OnOk result ((B.stops engine.new ≡ B.stops engine.old) × (B.stopped engine.new ≡ B.stopped engine.old)) }
     ensures stop { IfErr result (λ stop. (d : NameValue) (e : StoredShown)
         → CallStops (IsRunAtEither ring.now names.now stored.old.items places d e) NoTrail

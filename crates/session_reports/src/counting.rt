@@ -10,9 +10,10 @@ ghost use Rattle.session_values.specs.Names.{Value};
 
 use crate::step::Step;
 use hilbert_series::HilbertStop;
+use line_text::{LineText, whole_or_none};
 use module_vectors::{NoMemory, Ring, VectList};
 use script_parse::{Kind, NameInfo};
-use session_values::{append_numbers, numbers_of, whole_or_none};
+use session_values::{append_numbers, numbers_of};
 use std::alloc::Global;
 
 // What the stop is to the line.
@@ -31,15 +32,15 @@ fn refused(stop: HilbertStop) -> Result<Step, NoMemory>
 /// error, nothing is appended.
 pub fn push_numbers(
     alloc: Global,
-    out: &mut Vec<u8>,
+    out: &mut LineText,
     ring: &Ring,
     info: &NameInfo,
     basis: &VectList,
 ) -> Result<Step, NoMemory>
     requires rank { info.now.rank ≤ 64 }
     requires basis { (list : List _) × IsReducedBasisOf ring.now info.now.rank list basis.now }
-    ensures reports { IfOk result (Reports ring.now info.now basis.now reports.Numbers out.old.items out.new.items) }
-    ensures unwritten { OnErr result (out.new.items ≡ out.old.items) }
+    ensures reports { IfOk result (Reports ring.now info.now basis.now reports.Numbers out.old out.new) }
+    ensures unwritten { OnErr result (out.new ≡ out.old) }
 {
     let numbers = match numbers_of(alloc, ring, info.rank, basis) {
         Ok(numbers) => numbers,

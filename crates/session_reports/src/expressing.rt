@@ -10,6 +10,7 @@ ghost use Rattle.session_values.specs.Kept.{IsListOver, IsPolynomialOver};
 ghost use Rattle.session_reports.specs.Expressing.{IsExpressionText, expression_text};
 
 use groebner_iface::{Groebner, OpStop};
+use line_text::LineText;
 use module_vectors::{NoMemory, Ring, Vect, VectList};
 use ring_maps::express;
 use session_values::{push_line, push_verdict};
@@ -20,13 +21,13 @@ use std::thread::Threads;
 // Appends a polynomial, or that there is none. After an error nothing is appended.
 fn push_expressed(
     alloc: Global,
-    out: &mut Vec<u8>,
+    out: &mut LineText,
     ring: &Ring,
     expressed: &Option<Vect>,
 ) -> Result<(), NoMemory>
     requires { IfSome expressed.now (Each (HasVariables (variables ring.now))) }
-    ensures ok { OnOk result (out.new.items ≡ out.old.items ++ expression_text ring.now expressed.now) }
-    ensures err { OnErr result (out.new.items ≡ out.old.items) }
+    ensures ok { OnOk result (out.new ≡ out.old ++ expression_text ring.now expressed.now) }
+    ensures err { OnErr result (out.new ≡ out.old) }
 {
     match expressed {
         Some(p) => push_line(alloc, out, ring, 1, p),
@@ -43,13 +44,13 @@ pub fn push_expression<R: Threads + Wait + Sync, B: Groebner>(
     ring: &Ring,
     images: &VectList,
     f: &Vect,
-    out: &mut Vec<u8>,
+    out: &mut LineText,
 ) -> Result<(), OpStop>
     requires images { IsListOver ring.now 1 images.now }
     requires count { length images.now ≡ variables ring.now }
     requires polynomial { IsPolynomialOver ring.now f.now }
-    ensures text { OnOk result ((text : List ℕ) × IsExpressionText ring.now images.now f.now text × (out.new.items ≡ out.old.items ++ text)) }
-    ensures unwritten { OnErr result (out.new.items ≡ out.old.items) }
+    ensures text { OnOk result ((text : List ℕ) × IsExpressionText ring.now images.now f.now text × (out.new ≡ out.old ++ text)) }
+    ensures unwritten { OnErr result (out.new ≡ out.old) }
     ensures same { OnOk result ((B.stops engine.new ≡ B.stops engine.old) × (B.stopped engine.new ≡ B.stopped engine.old)) }
     ensures stop { IfErr result (CallStops (IsGraphRun ring.now images.now []) (IsExpressionTrail ring.now images.now f.now)
         (B.stops engine.old) (B.stops engine.new) (B.stopped engine.old) (B.stopped engine.new)) }

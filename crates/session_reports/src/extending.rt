@@ -16,6 +16,7 @@ ghost use Rattle.session_reports.specs.Extensions.{IsExtAnswer, IsRunToExtend};
 
 use ext_modules::{Ext, ext};
 use groebner_iface::{Groebner, OpStop};
+use line_text::LineText;
 use module_vectors::{Ring, VectList, lawful_setting};
 use resolution_maps::Map;
 use schreyer_resolution::resolve_to;
@@ -99,14 +100,14 @@ fn push_ext_at<R: Threads + Wait + Sync, B: Groebner>(
     info: &NameInfo,
     basis: &VectList,
     step: u64,
-    out: &mut Vec<u8>,
+    out: &mut LineText,
 ) -> Result<(), OpStop>
     requires rank { info.now.rank ≤ 64 }
     requires basis { (list : List _) × Each (HasPositions info.now.rank) list × IsReducedBasisOf ring.now info.now.rank list basis.now }
     ensures text { OnOk result ((list : List _) → IsReducedBasisOf ring.now info.now.rank list basis.now → (kept : Bool) → (text : List ℕ)
         × IsExtText ring.now (record { name = string_bytes info.now.name; rank = info.now.rank; list = list; kept = kept }) step text
-        × (out.new.items ≡ out.old.items ++ text)) }
-    ensures unwritten { OnErr result (out.new.items ≡ out.old.items) }
+        × (out.new ≡ out.old ++ text)) }
+    ensures unwritten { OnErr result (out.new ≡ out.old) }
     ensures same { OnOk result ((B.stops engine.new ≡ B.stops engine.old) × (B.stopped engine.new ≡ B.stopped engine.old)) }
     ensures stop { IfErr result (CallStops (IsExtRun ring.now info.now.rank basis.now step) (IsResolutionTrail ring.now info.now.rank basis.now)
         (B.stops engine.old) (B.stops engine.new) (B.stopped engine.old) (B.stopped engine.new)) }
@@ -135,15 +136,15 @@ pub fn extend_value<R: Threads + Wait + Sync, B: Groebner>(
     info: &NameInfo,
     stored: &mut Stored,
     step: u64,
-    out: &mut Vec<u8>,
+    out: &mut LineText,
 ) -> Result<(), OpStop>
     requires sound { IsSound ring.now info.now.rank stored.old }
     ensures sound { IsSound ring.now info.now.rank stored.new }
     ensures list { stored.new.list ≡ stored.old.list }
     ensures kept { OnOk result (IsSome stored.new.basis) }
     ensures as_before { OnErr result (stored.new ≡ stored.old) }
-    ensures text { OnOk result ((text : List ℕ) × IsExtText ring.now (value_of info.now stored.old) step text × (out.new.items ≡ out.old.items ++ text)) }
-    ensures unwritten { OnErr result (out.new.items ≡ out.old.items) }
+    ensures text { OnOk result ((text : List ℕ) × IsExtText ring.now (value_of info.now stored.old) step text × (out.new ≡ out.old ++ text)) }
+    ensures unwritten { OnErr result (out.new ≡ out.old) }
     ensures same { OnOk result ((B.stops engine.new ≡ B.stops engine.old) × (B.stopped engine.new ≡ B.stopped engine.old)) }
     ensures stop { IfErr result (CallStops (IsRunToExtend ring.now (value_of info.now stored.old) step)
         (IsResolvingTrail ring.now (value_of info.now stored.old))

@@ -13,6 +13,7 @@ ghost use Rattle.syzygy_engine.specs.Lifts.{IsLiftTrail};
 ghost use Rattle.syzygy_engine.specs.Marking.{IsMarkedRun};
 
 use groebner_iface::{Groebner, OpStop};
+use line_text::LineText;
 use module_vectors::{NoMemory, Ring, Vect};
 use script_parse::NameInfo;
 use session_values::{Stored, push_cofactors, push_verdict};
@@ -24,15 +25,15 @@ use syzygy_engine::lift;
 // Appends a lift to so many vectors, or that there is none. After an error nothing is appended.
 fn push_lifted(
     alloc: Global,
-    out: &mut Vec<u8>,
+    out: &mut LineText,
     ring: &Ring,
     count: usize,
     lifted: &Option<Vect>,
 ) -> Result<(), NoMemory>
     requires { IfSome lifted.now (Each (HasVariables (variables ring.now))) }
-    ensures some { OnOk result (IfSome lifted.now (λ a. out.new.items ≡ out.old.items ++ (entries_text (names_of ring.now) count a ++ 10 ∷ []))) }
-    ensures none { OnOk result (IfNone lifted.now (out.new.items ≡ out.old.items ++ verdict false)) }
-    ensures err { OnErr result (out.new.items ≡ out.old.items) }
+    ensures some { OnOk result (IfSome lifted.now (λ a. out.new ≡ out.old ++ (entries_text (names_of ring.now) count a ++ 10 ∷ []))) }
+    ensures none { OnOk result (IfNone lifted.now (out.new ≡ out.old ++ verdict false)) }
+    ensures err { OnErr result (out.new ≡ out.old) }
 {
     match lifted {
         Some(cofactors) => push_cofactors(alloc, out, ring, count, cofactors),
@@ -49,13 +50,13 @@ pub fn push_lift<R: Threads + Wait + Sync, B: Groebner>(
     info: &NameInfo,
     stored: &Stored,
     v: &Vect,
-    out: &mut Vec<u8>,
+    out: &mut LineText,
 ) -> Result<(), OpStop>
     requires sound { IsSound ring.now info.now.rank stored.now }
     requires vector { IsVectorOver ring.now (ring_comparison ring.now) v.now }
     requires positions { HasPositions info.now.rank v.now }
-    ensures text { OnOk result ((text : List ℕ) × IsLiftText ring.now (value_of info.now stored.now) v.now text × (out.new.items ≡ out.old.items ++ text)) }
-    ensures unwritten { OnErr result (out.new.items ≡ out.old.items) }
+    ensures text { OnOk result ((text : List ℕ) × IsLiftText ring.now (value_of info.now stored.now) v.now text × (out.new ≡ out.old ++ text)) }
+    ensures unwritten { OnErr result (out.new ≡ out.old) }
     ensures same { OnOk result ((B.stops engine.new ≡ B.stops engine.old) × (B.stopped engine.new ≡ B.stopped engine.old)) }
     ensures stop { IfErr result (CallStops (IsMarkedRun ring.now info.now.rank stored.now.list) (IsLiftTrail ring.now info.now.rank stored.now.list v.now)
         (B.stops engine.old) (B.stops engine.new) (B.stopped engine.old) (B.stopped engine.new)) }

@@ -13,12 +13,13 @@ ghost use Rattle.session_reports.specs.declared.reports.Report.TheVariants as re
 
 use crate::step::Step;
 use itoa::Buffer;
+use line_text::{LineText, whole_or_none};
 use minimal_betti::{BettiEntry, betti_table, invariants, minimal};
 use module_vectors::{NoMemory, Ring, Vect, VectList, WorkStop, lawful_setting};
 use resolution_maps::Resolution;
 use schreyer_resolution::resolve;
 use script_parse::{Kind, NameInfo};
-use session_values::{append_number, append_resolution, append_word, whole_or_none};
+use session_values::{append_number, append_resolution, append_word};
 use std::alloc::Global;
 
 /// The projective dimension and the regularity of a value; -1 and 0 of one that has no table.
@@ -81,14 +82,14 @@ fn minimal_of(
 /// nothing is appended; `Degree` comes with a trail of the resolution or of a cancellation.
 pub fn push_minimal(
     alloc: Global,
-    out: &mut Vec<u8>,
+    out: &mut LineText,
     ring: &Ring,
     info: &NameInfo,
     basis: &VectList,
 ) -> Result<Step, WorkStop>
     requires { (list : List _) × Each (HasPositions info.now.rank) list × IsReducedBasisOf ring.now info.now.rank list basis.now }
-    ensures reports { IfOk result (Reports ring.now info.now basis.now reports.Minimal out.old.items out.new.items) }
-    ensures unwritten { OnErr result (out.new.items ≡ out.old.items) }
+    ensures reports { IfOk result (Reports ring.now info.now basis.now reports.Minimal out.old out.new) }
+    ensures unwritten { OnErr result (out.new ≡ out.old) }
     ensures stop { IfErr result (StopsAsMinimal ring.now info.now.rank basis.now) }
 {
     if is_inhomogeneous(basis) {
@@ -128,9 +129,9 @@ fn table_of(
 }
 
 // Appends an entry of a table on its line. After an error what was written so far stands there.
-fn append_entry(out: &mut Vec<u8>, entry: &BettiEntry) -> Result<(), NoMemory>
-    ensures ok { OnOk result (out.new.items ≡ out.old.items ++ entry_line entry.now) }
-    ensures err { OnErr result (IsFront out.old.items out.new.items) }
+fn append_entry(out: &mut LineText, entry: &BettiEntry) -> Result<(), NoMemory>
+    ensures ok { OnOk result (out.new ≡ out.old ++ entry_line entry.now) }
+    ensures err { OnErr result (IsFront out.old out.new) }
 {
     let mut digits = Buffer::new();
     append_word(out, digits.format(entry.step).as_bytes(), b' ')?;
@@ -139,9 +140,9 @@ fn append_entry(out: &mut Vec<u8>, entry: &BettiEntry) -> Result<(), NoMemory>
 }
 
 // Appends a table. After an error what was written so far stands there.
-fn append_table(out: &mut Vec<u8>, entries: &[BettiEntry]) -> Result<(), NoMemory>
-    ensures ok { OnOk result (out.new.items ≡ out.old.items ++ table_text entries.now) }
-    ensures err { OnErr result (IsFront out.old.items out.new.items) }
+fn append_table(out: &mut LineText, entries: &[BettiEntry]) -> Result<(), NoMemory>
+    ensures ok { OnOk result (out.new ≡ out.old ++ table_text entries.now) }
+    ensures err { OnErr result (IsFront out.old out.new) }
 {
     for entry in entries {
         match append_entry(out, entry) {
@@ -156,14 +157,14 @@ fn append_table(out: &mut Vec<u8>, entries: &[BettiEntry]) -> Result<(), NoMemor
 /// refused, nothing is appended; `Degree` comes with a trail of the resolution.
 pub fn push_betti(
     alloc: Global,
-    out: &mut Vec<u8>,
+    out: &mut LineText,
     ring: &Ring,
     info: &NameInfo,
     basis: &VectList,
 ) -> Result<Step, WorkStop>
     requires { (list : List _) × Each (HasPositions info.now.rank) list × IsReducedBasisOf ring.now info.now.rank list basis.now }
-    ensures reports { IfOk result (Reports ring.now info.now basis.now reports.Betti out.old.items out.new.items) }
-    ensures unwritten { OnErr result (out.new.items ≡ out.old.items) }
+    ensures reports { IfOk result (Reports ring.now info.now basis.now reports.Betti out.old out.new) }
+    ensures unwritten { OnErr result (out.new ≡ out.old) }
     ensures stop { IfErr result (StopsAsMinimal ring.now info.now.rank basis.now) }
 {
     if is_inhomogeneous(basis) {
@@ -198,10 +199,10 @@ fn measures_of(entries: &[BettiEntry]) -> Measures
 }
 
 // Appends what was measured, to the end of its line. After an error what was written so far stands there.
-fn append_measures(alloc: Global, out: &mut Vec<u8>, measures: Measures) -> Result<(), NoMemory>
-    ensures ok { OnOk result (out.new.items
-        ≡ out.old.items ++ 32 ∷ (signed_decimal measures.dimension ++ 32 ∷ (signed_decimal measures.regularity ++ 10 ∷ []))) }
-    ensures err { OnErr result (IsFront out.old.items out.new.items) }
+fn append_measures(alloc: Global, out: &mut LineText, measures: Measures) -> Result<(), NoMemory>
+    ensures ok { OnOk result (out.new
+        ≡ out.old ++ 32 ∷ (signed_decimal measures.dimension ++ 32 ∷ (signed_decimal measures.regularity ++ 10 ∷ []))) }
+    ensures err { OnErr result (IsFront out.old out.new) }
 {
     append_number(alloc, out, measures.dimension)?;
     append_number(alloc, out, measures.regularity)?;
@@ -212,12 +213,12 @@ fn append_measures(alloc: Global, out: &mut Vec<u8>, measures: Measures) -> Resu
 // Appends the name and what was measured. After an error what was written so far stands there.
 fn append_regularity(
     alloc: Global,
-    out: &mut Vec<u8>,
+    out: &mut LineText,
     name: &[u8],
     measures: Measures,
 ) -> Result<(), NoMemory>
-    ensures ok { OnOk result (out.new.items ≡ out.old.items ++ regularity_text name.now measures.dimension measures.regularity) }
-    ensures err { OnErr result (IsFront out.old.items out.new.items) }
+    ensures ok { OnOk result (out.new ≡ out.old ++ regularity_text name.now measures.dimension measures.regularity) }
+    ensures err { OnErr result (IsFront out.old out.new) }
 {
     out.extend_from_slice(b"reg ")?;
     out.extend_from_slice(name)?;
@@ -228,14 +229,14 @@ fn append_regularity(
 /// and where they are refused, nothing is appended; `Degree` comes with a trail of the resolution.
 pub fn push_regularity(
     alloc: Global,
-    out: &mut Vec<u8>,
+    out: &mut LineText,
     ring: &Ring,
     info: &NameInfo,
     basis: &VectList,
 ) -> Result<Step, WorkStop>
     requires { (list : List _) × Each (HasPositions info.now.rank) list × IsReducedBasisOf ring.now info.now.rank list basis.now }
-    ensures reports { IfOk result (Reports ring.now info.now basis.now reports.Regularity out.old.items out.new.items) }
-    ensures unwritten { OnErr result (out.new.items ≡ out.old.items) }
+    ensures reports { IfOk result (Reports ring.now info.now basis.now reports.Regularity out.old out.new) }
+    ensures unwritten { OnErr result (out.new ≡ out.old) }
     ensures stop { IfErr result (StopsAsMinimal ring.now info.now.rank basis.now) }
 {
     if is_inhomogeneous(basis) {

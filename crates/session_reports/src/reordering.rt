@@ -14,6 +14,7 @@ ghost use Rattle.session_reports.specs.Reporting.{Reports, ReportsAs};
 ghost use Rattle.session_reports.specs.declared.reports.Report.TheVariants as reports;
 
 use crate::step::Step;
+use line_text::LineText;
 use module_vectors::{NoMemory, Ring, VectList, lawful_setting};
 use monomial_orders::Order;
 use order_change::{ChangeStop, convert};
@@ -38,7 +39,7 @@ fn refused(stop: ChangeStop) -> Result<Step, NoMemory>
 /// and after an error, nothing is appended.
 pub fn push_reordered(
     alloc: Global,
-    out: &mut Vec<u8>,
+    out: &mut LineText,
     ring: &Ring,
     info: &NameInfo,
     basis: &VectList,
@@ -46,8 +47,8 @@ pub fn push_reordered(
 ) -> Result<Step, NoMemory>
     requires ideal { info.now.rank ≡ 1 }
     requires basis { (list : List _) × Each (HasPositions info.now.rank) list × IsReducedBasisOf ring.now info.now.rank list basis.now }
-    ensures reports { IfOk result (Reports ring.now info.now basis.now (reports.InOrder order) out.old.items out.new.items) }
-    ensures unwritten { OnErr result (out.new.items ≡ out.old.items) }
+    ensures reports { IfOk result (Reports ring.now info.now basis.now (reports.InOrder order) out.old out.new) }
+    ensures unwritten { OnErr result (out.new ≡ out.old) }
 {
     lawful_setting(ring);
     let reordered = match convert(alloc, ring, basis, order) {

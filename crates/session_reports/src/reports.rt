@@ -16,6 +16,7 @@ use crate::reordering::push_reordered;
 use crate::resolving::push_resolution;
 use crate::step::Step;
 use groebner_iface::{Groebner, OpStop};
+use line_text::LineText;
 use module_vectors::{Ring, VectList, WorkStop};
 use monomial_orders::Order;
 use script_parse::NameInfo;
@@ -45,7 +46,7 @@ pub enum Report {
 // is appended.
 fn push_report(
     alloc: Global,
-    out: &mut Vec<u8>,
+    out: &mut LineText,
     ring: &Ring,
     info: &NameInfo,
     basis: &VectList,
@@ -54,8 +55,8 @@ fn push_report(
     requires rank { info.now.rank ≤ 64 }
     requires has { HasReport info.now.rank report }
     requires basis { (list : List _) × Each (HasPositions info.now.rank) list × IsReducedBasisOf ring.now info.now.rank list basis.now }
-    ensures reports { IfOk result (Reports ring.now info.now basis.now report out.old.items out.new.items) }
-    ensures unwritten { OnErr result (out.new.items ≡ out.old.items) }
+    ensures reports { IfOk result (Reports ring.now info.now basis.now report out.old out.new) }
+    ensures unwritten { OnErr result (out.new ≡ out.old) }
     ensures stop { IfErr result (ReportStops ring.now info.now.rank basis.now report) }
 {
     match report {
@@ -78,7 +79,7 @@ pub fn report_value<R: Threads + Wait + Sync, B: Groebner>(
     info: &NameInfo,
     stored: &mut Stored,
     report: Report,
-    out: &mut Vec<u8>,
+    out: &mut LineText,
 ) -> Result<Step, OpStop>
     requires sound { IsSound ring.now info.now.rank stored.old }
     requires has { HasReport info.now.rank report }
@@ -86,8 +87,8 @@ pub fn report_value<R: Threads + Wait + Sync, B: Groebner>(
     ensures list { stored.new.list ≡ stored.old.list }
     ensures kept { IfOk result (KeepsAs stored.old stored.new) }
     ensures as_before { OnErr result (stored.new ≡ stored.old) }
-    ensures reports { IfOk result (ReportsAs ring.now (value_of info.now stored.old) report out.old.items out.new.items) }
-    ensures unwritten { OnErr result (out.new.items ≡ out.old.items) }
+    ensures reports { IfOk result (ReportsAs ring.now (value_of info.now stored.old) report out.old out.new) }
+    ensures unwritten { OnErr result (out.new ≡ out.old) }
     ensures same { OnOk result ((B.stops engine.new ≡ B.stops engine.old) × (B.stopped engine.new ≡ B.stopped engine.old)) }
     ensures stop { IfErr result (CallStops (IsRunToKeep ring.now (value_of info.now stored.old)) (IsReportTrail ring.now (value_of info.now stored.old) report)
         (B.stops engine.old) (B.stops engine.new) (B.stopped engine.old) (B.stopped engine.new)) }

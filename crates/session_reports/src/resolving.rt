@@ -8,24 +8,25 @@ ghost use Rattle.session_reports.specs.Reporting.{Reports};
 ghost use Rattle.session_reports.specs.declared.reports.Report.TheVariants as reports;
 
 use crate::step::Step;
+use line_text::{LineText, whole_or_none};
 use module_vectors::{Ring, VectList, WorkStop, lawful_setting};
 use schreyer_resolution::resolve;
 use script_parse::NameInfo;
-use session_values::{append_resolution, whole_or_none};
+use session_values::append_resolution;
 use std::alloc::Global;
 
 /// Appends the canonical resolution of a value with this reduced basis. After an error nothing is appended; `Degree` comes with a
 /// trail of the resolution.
 pub fn push_resolution(
     alloc: Global,
-    out: &mut Vec<u8>,
+    out: &mut LineText,
     ring: &Ring,
     info: &NameInfo,
     basis: &VectList,
 ) -> Result<Step, WorkStop>
     requires { (list : List _) × Each (HasPositions info.now.rank) list × IsReducedBasisOf ring.now info.now.rank list basis.now }
-    ensures reports { IfOk result (Reports ring.now info.now basis.now reports.Resolution out.old.items out.new.items) }
-    ensures unwritten { OnErr result (out.new.items ≡ out.old.items) }
+    ensures reports { IfOk result (Reports ring.now info.now basis.now reports.Resolution out.old out.new) }
+    ensures unwritten { OnErr result (out.new ≡ out.old) }
     ensures stop { IfErr result (ResolutionStops ring.now info.now.rank basis.now) }
 {
     lawful_setting(ring);

@@ -1,7 +1,6 @@
 mod Causes
 mod Complete
 mod Degrees
-mod Endings
 mod GeneratedLines
 mod Going
 mod Goings

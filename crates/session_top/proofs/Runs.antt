@@ -19,7 +19,7 @@ use Rattle.session_top.specs.Parts.{ErrorEnds, LineStops}
 use Rattle.session_top.specs.Run.{AreReady, IsSettled, Meant, ScriptStops}
 use Rattle.session_top.specs.Stops.{stop_line}
 use Rattle.session_top.proofs.Complete.{whole_first}
-use Rattle.session_top.proofs.Endings.{front_after}
+use Rattle.byte_ports.proofs.Endings.{front_after}
 use Rattle.session_top.proofs.Going.{Going, Due}
 use Rattle.session_top.proofs.Goings.{line_due, last_due, long_is, long_lines, one_last, rest_lines, rest_short, so_far}
 use Rattle.session_top.proofs.Steps.{done_more, folds_after, folds_all}

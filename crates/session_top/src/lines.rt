@@ -24,6 +24,7 @@ use degree_engine::DegreeEngine;
 use f4_engine::F4Engine;
 use groebner_iface::OpStop;
 use itoa::Buffer;
+use line_text::{LineText, Pieces};
 use module_vectors::KeptTrail;
 use script_parse::Kind;
 use session_lang::{Session, Step};
@@ -149,8 +150,10 @@ fn stop_at_division<K: Sink>(sink: &mut K, number: u32, trail: KeptTrail) -> Ear
 pub struct Desk {
     engine: DegreeEngine<Engines, F4Engine>,
     session: Session,
-    /// Where the text of a line is made.
-    out: Vec<u8>,
+    /// The text of a line, until it is written.
+    out: LineText,
+    /// Its bytes on their way to the sink.
+    pieces: Pieces,
 }
 
 // By hand, so that each drop of one is a call.
@@ -160,12 +163,19 @@ impl Drop for Desk {
             engine: _,
             session: _,
             out: _,
+            pieces: _,
         } = self;
     }
 }
 
 /// A desk at which nothing has a name yet, whose basis runs are as the request says, by workers and helpers that pass this gate.
-fn set_desk(alloc: Global, request: Request, thread: usize, gate: SharedGate) -> Desk
+fn set_desk(
+    alloc: Global,
+    request: Request,
+    thread: usize,
+    gate: SharedGate,
+    pieces: Pieces,
+) -> Desk
     requires workers { 0 < request.workers }
     requires helpers { 0 < request.helpers }
     ensures names { result.session ≡ no_names }
@@ -174,7 +184,8 @@ fn set_desk(alloc: Global, request: Request, thread: usize, gate: SharedGate) ->
     Desk {
         engine: engine_of(request, thread, gate),
         session: Session::new(alloc),
-        out: Vec::new(alloc),
+        out: LineText::new(alloc),
+        pieces,
     }
 }
 
@@ -198,7 +209,7 @@ fn do_line<R: Threads + Wait + Sync, K: Sink>(
         .session
         .step(rt, alloc, &mut desk.engine, line, &mut desk.out)
     {
-        Ok(Step::Done) => match write_all_to(sink, &desk.out) {
+        Ok(Step::Done) => match desk.out.write_to(&mut desk.pieces, sink) {
             Ok(()) => Ok(()),
             Err(_) => Err(Early::WriteFault),
         },
@@ -282,7 +293,11 @@ pub fn do_lines<R: Threads + Wait + Sync, S: Source, K: Sink>(
         Ok(line) => line,
         Err(_) => return Err(Early::NoMemory(0)),
     };
-    let mut desk = set_desk(alloc, request, thread, gate);
+    let pieces = match Pieces::new(alloc) {
+        Ok(pieces) => pieces,
+        Err(_) => return Err(Early::NoMemory(0)),
+    };
+    let mut desk = set_desk(alloc, request, thread, gate, pieces);
     let result = do_all(rt, alloc, &mut desk, &mut lines, &mut line, source, sink);
     drop(desk);
     result

@@ -8,22 +8,23 @@ ghost use Rattle.session_values.specs.Extending.{ext_line, ext_text};
 ghost use Rattle.session_values.specs.Texts.{verdict};
 
 use crate::maps::{append_columns, append_counts};
-use crate::texts::{append_word, push_verdict, whole_or_none};
+use crate::texts::{append_word, push_verdict};
 use ext_modules::Ext;
 use itoa::Buffer;
+use line_text::{LineText, whole_or_none};
 use module_vectors::{NoMemory, Ring};
 use std::alloc::Global;
 
 // Appends name and step, and how many generators and relations there are. After an error what was written so far stands there.
 fn append_ext_line(
-    out: &mut Vec<u8>,
+    out: &mut LineText,
     name: &[u8],
     step: u64,
     generators: u64,
     relations: usize,
 ) -> Result<(), NoMemory>
-    ensures ok { OnOk result (out.new.items ≡ out.old.items ++ ext_line name.now step generators relations) }
-    ensures err { OnErr result (IsFront out.old.items out.new.items) }
+    ensures ok { OnOk result (out.new ≡ out.old ++ ext_line name.now step generators relations) }
+    ensures err { OnErr result (IsFront out.old out.new) }
 {
     let mut digits = Buffer::new();
     out.extend_from_slice(b"ext ")?;
@@ -33,9 +34,9 @@ fn append_ext_line(
 }
 
 // Appends whether the module is zero. After an error what was written so far stands there.
-fn append_zero(out: &mut Vec<u8>, zero: bool) -> Result<(), NoMemory>
-    ensures ok { OnOk result (out.new.items ≡ out.old.items ++ (codes "zero " ++ verdict zero)) }
-    ensures err { OnErr result (IsFront out.old.items out.new.items) }
+fn append_zero(out: &mut LineText, zero: bool) -> Result<(), NoMemory>
+    ensures ok { OnOk result (out.new ≡ out.old ++ (codes "zero " ++ verdict zero)) }
+    ensures err { OnErr result (IsFront out.old out.new) }
 {
     out.extend_from_slice(b"zero ")?;
     push_verdict(out, zero)
@@ -44,7 +45,7 @@ fn append_zero(out: &mut Vec<u8>, zero: bool) -> Result<(), NoMemory>
 // Appends the presentation. After an error what was written so far stands there.
 fn append_ext(
     alloc: Global,
-    out: &mut Vec<u8>,
+    out: &mut LineText,
     ring: &Ring,
     name: &[u8],
     step: u64,
@@ -53,8 +54,8 @@ fn append_ext(
 ) -> Result<(), NoMemory>
     requires kernel { Each (λ v. Each (HasVariables (variables ring.now)) v) ext.now.kernel }
     requires relations { Each (λ v. Each (HasVariables (variables ring.now)) v) ext.now.relations }
-    ensures ok { OnOk result (out.new.items ≡ out.old.items ++ ext_text ring.now name.now step rank ext.now) }
-    ensures err { OnErr result (IsFront out.old.items out.new.items) }
+    ensures ok { OnOk result (out.new ≡ out.old ++ ext_text ring.now name.now step rank ext.now) }
+    ensures err { OnErr result (IsFront out.old out.new) }
 {
     let generators = ext.kernel.len() as u64;
     append_ext_line(out, name, step, generators, ext.relations.len())?;
@@ -66,7 +67,7 @@ fn append_ext(
 /// Appends a presentation of the Ext module at a step of this rank. After an error nothing is appended.
 pub fn push_ext(
     alloc: Global,
-    out: &mut Vec<u8>,
+    out: &mut LineText,
     ring: &Ring,
     name: &[u8],
     step: u64,
@@ -75,8 +76,8 @@ pub fn push_ext(
 ) -> Result<(), NoMemory>
     requires kernel { Each (λ v. Each (HasVariables (variables ring.now)) v) ext.now.kernel }
     requires relations { Each (λ v. Each (HasVariables (variables ring.now)) v) ext.now.relations }
-    ensures ok { OnOk result (out.new.items ≡ out.old.items ++ ext_text ring.now name.now step rank ext.now) }
-    ensures err { OnErr result (out.new.items ≡ out.old.items) }
+    ensures ok { OnOk result (out.new ≡ out.old ++ ext_text ring.now name.now step rank ext.now) }
+    ensures err { OnErr result (out.new ≡ out.old) }
 {
     let before = out.len();
     let written = append_ext(alloc, out, ring, name, step, rank, ext);

@@ -25,5 +25,4 @@ pub use sizes::push_sizes;
 pub use stored::Stored;
 pub use texts::{
     append_number, append_word, push_cofactors, push_line, push_listing, push_verdict,
-    whole_or_none,
 };

@@ -9,6 +9,7 @@ ghost use Rattle.session_values.specs.Writing.{AreOverVariables, resolution_writ
 
 use crate::texts::{append_heading, append_word, push_cofactors};
 use itoa::Buffer;
+use line_text::LineText;
 use module_vectors::{NoMemory, Ring, VectList};
 use resolution_maps::{Map, Resolution};
 use std::alloc::Global;
@@ -16,14 +17,14 @@ use std::alloc::Global;
 /// Appends the columns of a map with so many rows. After an error what was written so far stands there.
 pub fn append_columns(
     alloc: Global,
-    out: &mut Vec<u8>,
+    out: &mut LineText,
     ring: &Ring,
     rows: u64,
     columns: &VectList,
 ) -> Result<(), NoMemory>
     requires { Each (λ v. Each (HasVariables (variables ring.now)) v) columns.now }
-    ensures ok { OnOk result (out.new.items ≡ out.old.items ++ columns_text ring.now rows columns.now) }
-    ensures err { OnErr result (IsFront out.old.items out.new.items) }
+    ensures ok { OnOk result (out.new ≡ out.old ++ columns_text ring.now rows columns.now) }
+    ensures err { OnErr result (IsFront out.old out.new) }
 {
     for column in columns.as_slice() {
         match push_cofactors(alloc, out, ring, rows as usize, column) {
@@ -35,9 +36,9 @@ pub fn append_columns(
 }
 
 /// Appends how many rows and columns there are, on a line. After an error what was written so far stands there.
-pub fn append_counts(out: &mut Vec<u8>, rows: u64, columns: usize) -> Result<(), NoMemory>
-    ensures ok { OnOk result (out.new.items ≡ out.old.items ++ counts_text rows columns) }
-    ensures err { OnErr result (IsFront out.old.items out.new.items) }
+pub fn append_counts(out: &mut LineText, rows: u64, columns: usize) -> Result<(), NoMemory>
+    ensures ok { OnOk result (out.new ≡ out.old ++ counts_text rows columns) }
+    ensures err { OnErr result (IsFront out.old out.new) }
 {
     let mut digits = Buffer::new();
     append_word(out, digits.format(rows).as_bytes(), b' ')?;
@@ -46,13 +47,13 @@ pub fn append_counts(out: &mut Vec<u8>, rows: u64, columns: usize) -> Result<(),
 
 // Appends the line before a map's columns. After an error what was written so far stands there.
 fn append_map_line(
-    out: &mut Vec<u8>,
+    out: &mut LineText,
     number: usize,
     rows: u64,
     columns: usize,
 ) -> Result<(), NoMemory>
-    ensures ok { OnOk result (out.new.items ≡ out.old.items ++ map_line number rows columns) }
-    ensures err { OnErr result (IsFront out.old.items out.new.items) }
+    ensures ok { OnOk result (out.new ≡ out.old ++ map_line number rows columns) }
+    ensures err { OnErr result (IsFront out.old out.new) }
 {
     let mut digits = Buffer::new();
     out.extend_from_slice(b"map ")?;
@@ -63,14 +64,14 @@ fn append_map_line(
 // Appends a map with its number. After an error what was written so far stands there.
 fn append_map(
     alloc: Global,
-    out: &mut Vec<u8>,
+    out: &mut LineText,
     ring: &Ring,
     number: usize,
     map: &Map,
 ) -> Result<(), NoMemory>
     requires { Each (λ v. Each (HasVariables (variables ring.now)) v) map.now.columns }
-    ensures ok { OnOk result (out.new.items ≡ out.old.items ++ map_text ring.now number map.now.rows map.now.columns) }
-    ensures err { OnErr result (IsFront out.old.items out.new.items) }
+    ensures ok { OnOk result (out.new ≡ out.old ++ map_text ring.now number map.now.rows map.now.columns) }
+    ensures err { OnErr result (IsFront out.old out.new) }
 {
     append_map_line(out, number, map.rows, map.columns.len())?;
     append_columns(alloc, out, ring, map.rows, &map.columns)
@@ -78,10 +79,10 @@ fn append_map(
 
 // Appends the maps with their numbers. After an error what was written so far stands there.
 #[tactic(auto, using(poly_text::proofs::Writing::begins_more))]
-fn append_maps(alloc: Global, out: &mut Vec<u8>, ring: &Ring, maps: &[Map]) -> Result<(), NoMemory>
+fn append_maps(alloc: Global, out: &mut LineText, ring: &Ring, maps: &[Map]) -> Result<(), NoMemory>
     requires { Each (AreOverVariables ring.now) maps.now }
-    ensures ok { OnOk result (out.new.items ≡ out.old.items ++ written_maps ring.now 1 maps.now) }
-    ensures err { OnErr result (IsFront out.old.items out.new.items) }
+    ensures ok { OnOk result (out.new ≡ out.old ++ written_maps ring.now 1 maps.now) }
+    ensures err { OnErr result (IsFront out.old out.new) }
 {
     for k in 0..maps.len() {
         match append_map(alloc, out, ring, k + 1, &maps[k]) {
@@ -95,15 +96,15 @@ fn append_maps(alloc: Global, out: &mut Vec<u8>, ring: &Ring, maps: &[Map]) -> R
 /// Appends a resolution with its heading. After an error what was written so far stands there.
 pub fn append_resolution(
     alloc: Global,
-    out: &mut Vec<u8>,
+    out: &mut LineText,
     ring: &Ring,
     word: &[u8],
     name: &[u8],
     resolution: &Resolution,
 ) -> Result<(), NoMemory>
     requires { Each (AreOverVariables ring.now) resolution.now.maps.items }
-    ensures ok { OnOk result (out.new.items ≡ out.old.items ++ resolution_written ring.now word.now name.now resolution.now.maps.items) }
-    ensures err { OnErr result (IsFront out.old.items out.new.items) }
+    ensures ok { OnOk result (out.new ≡ out.old ++ resolution_written ring.now word.now name.now resolution.now.maps.items) }
+    ensures err { OnErr result (IsFront out.old out.new) }
 {
     append_heading(out, word, name, resolution.maps.len())?;
     append_maps(alloc, out, ring, &resolution.maps)

@@ -11,6 +11,7 @@ ghost use Rattle.session_values.specs.Numbers.{HasManyLeads, IsNumeratorFor, coe
 
 use crate::texts::append_number;
 use hilbert_series::{HilbertStop, Series, dimension_degree, numerator};
+use line_text::LineText;
 use module_vectors::{Key, NoMemory, Ring, VectList};
 use poly_text::push_number;
 use std::alloc::Global;
@@ -85,9 +86,9 @@ pub fn numbers_of(
 }
 
 // Appends each number behind a space. After an error what was written so far stands there.
-fn append_each(alloc: Global, out: &mut Vec<u8>, numbers: &[i128]) -> Result<(), NoMemory>
-    ensures ok { OnOk result (out.new.items ≡ out.old.items ++ flat_map (λ k. 32 ∷ signed_decimal k) numbers.now) }
-    ensures err { OnErr result (IsFront out.old.items out.new.items) }
+fn append_each(alloc: Global, out: &mut LineText, numbers: &[i128]) -> Result<(), NoMemory>
+    ensures ok { OnOk result (out.new ≡ out.old ++ flat_map (λ k. 32 ∷ signed_decimal k) numbers.now) }
+    ensures err { OnErr result (IsFront out.old out.new) }
 {
     for k in numbers {
         match append_number(alloc, out, *k) {
@@ -101,11 +102,11 @@ fn append_each(alloc: Global, out: &mut Vec<u8>, numbers: &[i128]) -> Result<(),
 // Appends the coefficients. After an error what was written so far stands there.
 fn append_coefficients(
     alloc: Global,
-    out: &mut Vec<u8>,
+    out: &mut LineText,
     coefficients: &[i128],
 ) -> Result<(), NoMemory>
-    ensures ok { OnOk result (out.new.items ≡ out.old.items ++ coefficients_text coefficients.now) }
-    ensures err { OnErr result (IsFront out.old.items out.new.items) }
+    ensures ok { OnOk result (out.new ≡ out.old ++ coefficients_text coefficients.now) }
+    ensures err { OnErr result (IsFront out.old out.new) }
 {
     if coefficients.len() == 0 {
         append_each(alloc, out, &[0])
@@ -117,12 +118,12 @@ fn append_coefficients(
 // Appends a word and a number. After an error what was written so far stands there.
 fn append_measure(
     alloc: Global,
-    out: &mut Vec<u8>,
+    out: &mut LineText,
     word: &[u8],
     number: i128,
 ) -> Result<(), NoMemory>
-    ensures ok { OnOk result (out.new.items ≡ out.old.items ++ (word.now ++ signed_decimal number)) }
-    ensures err { OnErr result (IsFront out.old.items out.new.items) }
+    ensures ok { OnOk result (out.new ≡ out.old ++ (word.now ++ signed_decimal number)) }
+    ensures err { OnErr result (IsFront out.old out.new) }
 {
     out.extend_from_slice(word)?;
     push_number(alloc, out, number)
@@ -131,12 +132,12 @@ fn append_measure(
 // Appends dimension and degree. After an error what was written so far stands there.
 fn append_measures(
     alloc: Global,
-    out: &mut Vec<u8>,
+    out: &mut LineText,
     dimension: i128,
     degree: i128,
 ) -> Result<(), NoMemory>
-    ensures ok { OnOk result (out.new.items ≡ out.old.items ++ measures_text dimension degree) }
-    ensures err { OnErr result (IsFront out.old.items out.new.items) }
+    ensures ok { OnOk result (out.new ≡ out.old ++ measures_text dimension degree) }
+    ensures err { OnErr result (IsFront out.old out.new) }
 {
     append_measure(alloc, out, b"\ndim ", dimension)?;
     append_measure(alloc, out, b" degree ", degree)?;
@@ -147,13 +148,13 @@ fn append_measures(
 /// Appends the numerator on one line, dimension and degree on the next. After an error what was written so far stands there.
 pub fn append_numbers(
     alloc: Global,
-    out: &mut Vec<u8>,
+    out: &mut LineText,
     name: &[u8],
     numbers: &Numbers,
 ) -> Result<(), NoMemory>
-    ensures ok { OnOk result (out.new.items ≡ out.old.items
+    ensures ok { OnOk result (out.new ≡ out.old
         ++ numbers_text name.now numbers.now.series.coefficients.items numbers.now.dimension numbers.now.degree) }
-    ensures err { OnErr result (IsFront out.old.items out.new.items) }
+    ensures err { OnErr result (IsFront out.old out.new) }
 {
     out.extend_from_slice(b"hilb ")?;
     out.extend_from_slice(name)?;

@@ -3,8 +3,9 @@ ghost use Rattle.std.specs.Prelude.{◌≡◌, ◌++◌, OnErr, OnOk, codes, len
 ghost use Rattle.poly_text.specs.Writing.{IsFront};
 ghost use Rattle.session_values.specs.Texts.{degree_count, degree_line, degree_lines, greatest_degree, heading, lead_degree};
 
-use crate::texts::{append_heading, append_word, whole_or_none};
+use crate::texts::{append_heading, append_word};
 use itoa::Buffer;
+use line_text::{LineText, whole_or_none};
 use module_vectors::{NoMemory, Vect};
 
 /// The degree of the lead by the weights of its variables, 0 at zero.
@@ -43,9 +44,9 @@ fn greatest_degree(list: &[Vect]) -> u128
 
 /// Appends a degree and how many leads have it, and nothing where none has. After an error what was written so far
 /// stands there.
-fn append_degree(out: &mut Vec<u8>, list: &[Vect], degree: u128) -> Result<(), NoMemory>
-    ensures ok { OnOk result (out.new.items ≡ out.old.items ++ degree_line list.now degree) }
-    ensures err { OnErr result (IsFront out.old.items out.new.items) }
+fn append_degree(out: &mut LineText, list: &[Vect], degree: u128) -> Result<(), NoMemory>
+    ensures ok { OnOk result (out.new ≡ out.old ++ degree_line list.now degree) }
+    ensures err { OnErr result (IsFront out.old out.new) }
 {
     let count = degree_count(list, degree);
     if count == 0 {
@@ -57,9 +58,9 @@ fn append_degree(out: &mut Vec<u8>, list: &[Vect], degree: u128) -> Result<(), N
 }
 
 /// Appends how many leads have each degree, the degrees ascending. After an error what was written so far stands there.
-fn append_degrees(out: &mut Vec<u8>, list: &[Vect]) -> Result<(), NoMemory>
-    ensures ok { OnOk result (out.new.items ≡ out.old.items ++ degree_lines list.now) }
-    ensures err { OnErr result (IsFront out.old.items out.new.items) }
+fn append_degrees(out: &mut LineText, list: &[Vect]) -> Result<(), NoMemory>
+    ensures ok { OnOk result (out.new ≡ out.old ++ degree_lines list.now) }
+    ensures err { OnErr result (IsFront out.old out.new) }
 {
     let greatest = greatest_degree(list);
     for degree in 0..greatest {
@@ -75,18 +76,18 @@ fn append_degrees(out: &mut Vec<u8>, list: &[Vect]) -> Result<(), NoMemory>
 }
 
 // Appends the heading and the degrees. After an error what was written so far stands there.
-fn append_sizes(out: &mut Vec<u8>, name: &[u8], list: &[Vect]) -> Result<(), NoMemory>
-    ensures ok { OnOk result (out.new.items ≡ out.old.items ++ (heading (codes "size") name.now (length list.now) ++ degree_lines list.now)) }
-    ensures err { OnErr result (IsFront out.old.items out.new.items) }
+fn append_sizes(out: &mut LineText, name: &[u8], list: &[Vect]) -> Result<(), NoMemory>
+    ensures ok { OnOk result (out.new ≡ out.old ++ (heading (codes "size") name.now (length list.now) ++ degree_lines list.now)) }
+    ensures err { OnErr result (IsFront out.old out.new) }
 {
     append_heading(out, b"size", name, list.len())?;
     append_degrees(out, list)
 }
 
 /// Appends how many members a basis has, and its leads by degree. After an error nothing is appended.
-pub fn push_sizes(out: &mut Vec<u8>, name: &[u8], list: &[Vect]) -> Result<(), NoMemory>
-    ensures ok { OnOk result (out.new.items ≡ out.old.items ++ (heading (codes "size") name.now (length list.now) ++ degree_lines list.now)) }
-    ensures err { OnErr result (out.new.items ≡ out.old.items) }
+pub fn push_sizes(out: &mut LineText, name: &[u8], list: &[Vect]) -> Result<(), NoMemory>
+    ensures ok { OnOk result (out.new ≡ out.old ++ (heading (codes "size") name.now (length list.now) ++ degree_lines list.now)) }
+    ensures err { OnErr result (out.new ≡ out.old) }
 {
     let before = out.len();
     let written = append_sizes(out, name, list);

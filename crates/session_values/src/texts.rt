@@ -9,30 +9,15 @@ ghost use Rattle.poly_text.specs.Writing.{IsFront};
 ghost use Rattle.session_values.specs.Texts.{heading, verdict};
 
 use itoa::Buffer;
+use line_text::{LineText, whole_or_none};
 use module_vectors::{NoMemory, Ring, Vect, VectList};
 use poly_text::{push_entries, push_list, push_number, push_vect};
 use std::alloc::Global;
 
-/// Keeps what was written, and after an error only so many bytes as there were before.
-pub fn whole_or_none(
-    out: &mut Vec<u8>,
-    before: usize,
-    written: Result<(), NoMemory>,
-) -> Result<(), NoMemory>
-    ensures same { result ≡ written }
-    ensures ok { OnOk written (out.new.items ≡ out.old.items) }
-    ensures err { OnErr written (out.new.items ≡ take before out.old.items) }
-{
-    if written.is_err() {
-        out.truncate(before);
-    }
-    written
-}
-
 /// Appends a word and the byte that ends it. After an error what was written so far stands there.
-pub fn append_word(out: &mut Vec<u8>, word: &[u8], end: u8) -> Result<(), NoMemory>
-    ensures ok { OnOk result (out.new.items ≡ out.old.items ++ (word.now ++ end ∷ [])) }
-    ensures err { OnErr result (IsFront out.old.items out.new.items) }
+pub fn append_word(out: &mut LineText, word: &[u8], end: u8) -> Result<(), NoMemory>
+    ensures ok { OnOk result (out.new ≡ out.old ++ (word.now ++ end ∷ [])) }
+    ensures err { OnErr result (IsFront out.old out.new) }
 {
     out.extend_from_slice(word)?;
     out.push(end)?;
@@ -41,13 +26,13 @@ pub fn append_word(out: &mut Vec<u8>, word: &[u8], end: u8) -> Result<(), NoMemo
 
 /// Appends a word, a name and a number. After an error what was written so far stands there.
 pub fn append_heading(
-    out: &mut Vec<u8>,
+    out: &mut LineText,
     word: &[u8],
     name: &[u8],
     count: usize,
 ) -> Result<(), NoMemory>
-    ensures ok { OnOk result (out.new.items ≡ out.old.items ++ heading word.now name.now count) }
-    ensures err { OnErr result (IsFront out.old.items out.new.items) }
+    ensures ok { OnOk result (out.new ≡ out.old ++ heading word.now name.now count) }
+    ensures err { OnErr result (IsFront out.old out.new) }
 {
     let mut digits = Buffer::new();
     append_word(out, word, b' ')?;
@@ -56,9 +41,9 @@ pub fn append_heading(
 }
 
 /// Appends a number behind a space. After an error what was written so far stands there.
-pub fn append_number(alloc: Global, out: &mut Vec<u8>, number: i128) -> Result<(), NoMemory>
-    ensures ok { OnOk result (out.new.items ≡ out.old.items ++ (32 ∷ signed_decimal number)) }
-    ensures err { OnErr result (IsFront out.old.items out.new.items) }
+pub fn append_number(alloc: Global, out: &mut LineText, number: i128) -> Result<(), NoMemory>
+    ensures ok { OnOk result (out.new ≡ out.old ++ (32 ∷ signed_decimal number)) }
+    ensures err { OnErr result (IsFront out.old out.new) }
 {
     out.push(b' ')?;
     push_number(alloc, out, number)
@@ -67,7 +52,7 @@ pub fn append_number(alloc: Global, out: &mut Vec<u8>, number: i128) -> Result<(
 // Appends a heading and a list. After an error what was written so far stands there.
 fn append_listing(
     alloc: Global,
-    out: &mut Vec<u8>,
+    out: &mut LineText,
     word: &[u8],
     name: &[u8],
     ring: &Ring,
@@ -75,8 +60,8 @@ fn append_listing(
     list: &VectList,
 ) -> Result<(), NoMemory>
     requires { Each (λ v. Each (HasVariables (variables ring.now)) v) list.now }
-    ensures ok { OnOk result (out.new.items ≡ out.old.items ++ (heading word.now name.now (length list.now) ++ list_text (names_of ring.now) rank list.now)) }
-    ensures err { OnErr result (IsFront out.old.items out.new.items) }
+    ensures ok { OnOk result (out.new ≡ out.old ++ (heading word.now name.now (length list.now) ++ list_text (names_of ring.now) rank list.now)) }
+    ensures err { OnErr result (IsFront out.old out.new) }
 {
     append_heading(out, word, name, list.len())?;
     push_list(alloc, out, ring, u128::from(rank), list)
@@ -85,7 +70,7 @@ fn append_listing(
 /// Appends a list of a value with its heading. After an error nothing is appended.
 pub fn push_listing(
     alloc: Global,
-    out: &mut Vec<u8>,
+    out: &mut LineText,
     word: &[u8],
     name: &[u8],
     ring: &Ring,
@@ -93,8 +78,8 @@ pub fn push_listing(
     list: &VectList,
 ) -> Result<(), NoMemory>
     requires { Each (λ v. Each (HasVariables (variables ring.now)) v) list.now }
-    ensures ok { OnOk result (out.new.items ≡ out.old.items ++ (heading word.now name.now (length list.now) ++ list_text (names_of ring.now) rank list.now)) }
-    ensures err { OnErr result (out.new.items ≡ out.old.items) }
+    ensures ok { OnOk result (out.new ≡ out.old ++ (heading word.now name.now (length list.now) ++ list_text (names_of ring.now) rank list.now)) }
+    ensures err { OnErr result (out.new ≡ out.old) }
 {
     let before = out.len();
     let written = append_listing(alloc, out, word, name, ring, rank, list);
@@ -104,14 +89,14 @@ pub fn push_listing(
 /// Appends a vector on a line of its own. After an error nothing is appended.
 pub fn push_line(
     alloc: Global,
-    out: &mut Vec<u8>,
+    out: &mut LineText,
     ring: &Ring,
     rank: u64,
     v: &Vect,
 ) -> Result<(), NoMemory>
     requires { Each (HasVariables (variables ring.now)) v.now }
-    ensures ok { OnOk result (out.new.items ≡ out.old.items ++ (vector_text (names_of ring.now) rank v.now ++ 10 ∷ [])) }
-    ensures err { OnErr result (out.new.items ≡ out.old.items) }
+    ensures ok { OnOk result (out.new ≡ out.old ++ (vector_text (names_of ring.now) rank v.now ++ 10 ∷ [])) }
+    ensures err { OnErr result (out.new ≡ out.old) }
 {
     let before = out.len();
     if push_vect(alloc, out, ring, u128::from(rank), v).is_err() {
@@ -127,14 +112,14 @@ pub fn push_line(
 /// Appends cofactors in brackets, so many, on a line of their own. After an error nothing is appended.
 pub fn push_cofactors(
     alloc: Global,
-    out: &mut Vec<u8>,
+    out: &mut LineText,
     ring: &Ring,
     count: usize,
     v: &Vect,
 ) -> Result<(), NoMemory>
     requires { Each (HasVariables (variables ring.now)) v.now }
-    ensures ok { OnOk result (out.new.items ≡ out.old.items ++ (entries_text (names_of ring.now) count v.now ++ 10 ∷ [])) }
-    ensures err { OnErr result (out.new.items ≡ out.old.items) }
+    ensures ok { OnOk result (out.new ≡ out.old ++ (entries_text (names_of ring.now) count v.now ++ 10 ∷ [])) }
+    ensures err { OnErr result (out.new ≡ out.old) }
 {
     let before = out.len();
     if push_entries(alloc, out, ring, count as u128, v).is_err() {
@@ -148,9 +133,9 @@ pub fn push_cofactors(
 }
 
 /// Appends yes or no. After an error nothing is appended.
-pub fn push_verdict(out: &mut Vec<u8>, yes: bool) -> Result<(), NoMemory>
-    ensures ok { OnOk result (out.new.items ≡ out.old.items ++ verdict yes) }
-    ensures err { OnErr result (out.new.items ≡ out.old.items) }
+pub fn push_verdict(out: &mut LineText, yes: bool) -> Result<(), NoMemory>
+    ensures ok { OnOk result (out.new ≡ out.old ++ verdict yes) }
+    ensures err { OnErr result (out.new ≡ out.old) }
 {
     if yes {
         out.extend_from_slice(b"yes\n")?;

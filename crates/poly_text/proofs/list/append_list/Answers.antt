@@ -6,4 +6,4 @@ pub returns-in_err-push-clause-err : goal.returns-in_err-push-clause-err
 returns-in_err-push-clause-err c =
     let p = err_from_is_err_and c.from_residual.result c.from_residual.ensures.1 in
     rw (p.1, c.in_err-push.ensures.items)
-    (begins_more c.args.out.now.items c.loop-v.out.items c.push_vect.new.out.items _ (_, c.loop-v.invariant) c.in-Ok.ensures.ok)
+    (begins_more c.args.out.now c.loop-v.out c.push_vect.new.out _ (_, c.loop-v.invariant) c.in-Ok.ensures.ok)

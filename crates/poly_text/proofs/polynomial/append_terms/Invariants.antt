@@ -5,6 +5,6 @@ use Rattle.poly_text.proofs.polynomial.append_terms.Given as goal
 
 abbrev pub invariant-loop-term : goal.invariant-loop-term
 invariant-loop-term l =
-    IsFront l.initial.out.items l.out.items
-    × (l.out.items ++ tails 43 (map (term_text (map string_bytes l.vars)) (drop l.term-index l.rest))
-    ≡ l.initial.out.items ++ tails 43 (map (term_text (map string_bytes l.vars)) l.rest))
+    IsFront l.initial.out l.out
+    × (l.out ++ tails 43 (map (term_text (map string_bytes l.vars)) (drop l.term-index l.rest))
+    ≡ l.initial.out ++ tails 43 (map (term_text (map string_bytes l.vars)) l.rest))

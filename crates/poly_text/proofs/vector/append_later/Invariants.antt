@@ -7,6 +7,6 @@ decreases-loop-next l = l.rank - l.next
 
 abbrev pub invariant-loop-next : goal.invariant-loop-next
 invariant-loop-next l =
-    IsFront l.initial.out.items l.out.items
-    × (l.out.items ++ later_entries (map string_bytes l.vars) l.next (l.rank - l.next) l.terms
-    ≡ l.initial.out.items ++ later_entries (map string_bytes l.vars) l.initial.next (l.rank - l.initial.next) l.terms)
+    IsFront l.initial.out l.out
+    × (l.out ++ later_entries (map string_bytes l.vars) l.next (l.rank - l.next) l.terms
+    ≡ l.initial.out ++ later_entries (map string_bytes l.vars) l.initial.next (l.rank - l.initial.next) l.terms)

@@ -15,6 +15,6 @@ pub returns-clause-ok : goal.returns-clause-ok
 returns-clause-ok c =
     let cut = cuts 0 0 c.args.terms.now c.run_length.result (omega arith) c.requires.ascending c.run_length.ensures in
     on_ok_weaker c.append_rest.result
-    (λ k. entries_whole _ c.args.rank c.run_length.result c.args.terms.now c.split_at.result.0.now c.split_at.result.1.now c.args.out.now.items c.append_terms.new.out.items
-    c.append_rest.new.out.items (omega arith) cut c.split_at.ensures.front c.split_at.ensures.back c.in_ok-append_terms.ensures.ok k)
+    (λ k. entries_whole _ c.args.rank c.run_length.result c.args.terms.now c.split_at.result.0.now c.split_at.result.1.now c.args.out.now c.append_terms.new.out
+    c.append_rest.new.out (omega arith) cut c.split_at.ensures.front c.split_at.ensures.back c.in_ok-append_terms.ensures.ok k)
     c.append_rest.ensures.ok

@@ -12,5 +12,5 @@ append_later-requires c = c.requires
 pub returns-clause-ok : goal.returns-clause-ok
 returns-clause-ok c =
     on_ok_weaker c.append_later.result
-    (λ k. entries_first _ c.args.rank c.args.terms.now c.args.out.now.items c.append_entry.new.out.items c.append_later.new.out.items (omega arith) c.in-Ok.ensures.ok k)
+    (λ k. entries_first _ c.args.rank c.args.terms.now c.args.out.now c.append_entry.new.out c.append_later.new.out (omega arith) c.in-Ok.ensures.ok k)
     c.append_later.ensures.ok

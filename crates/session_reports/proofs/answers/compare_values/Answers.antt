@@ -81,7 +81,7 @@ returns-in-Ok-compare_with-clause-text g c = λ e.
     let lists : (k : ℕ) → (get_or (slice_set c.args.stored.now.items c.args.places.0 c.keep_basis.new.stored) k e).list ≡ (get_or c.args.stored.now.items k e).list =
     λ k. written_lists c.args.stored.now.items c.args.places.0 k c.keep_basis.new.stored e
     (c.in-Ok.ensures.list ∙ ap (λ s. s.list) (at_place c.args.stored.now.items c.args.places.0 c.index_mut.result.now e below c.index_mut.ensures.value)) in
-    subst₂ (λ l r. (text : List ℕ) × Decides (IsOneModule c.args.ring.now l r) text × (c.compare_with.new.out.items ≡ c.args.out.now.items ++ text))
+    subst₂ (λ l r. (text : List ℕ) × Decides (IsOneModule c.args.ring.now l r) text × (c.compare_with.new.out ≡ c.args.out.now ++ text))
     (lists c.args.places.0) (lists c.args.places.1) (c.in-Ok-compare_with.ensures.text e)
 
 pub returns-in-Err-compare_with-clause-as_before : goal.returns-in-Err-compare_with-clause-as_before

@@ -18,7 +18,7 @@ push_ext-requires-clause-relations g c = listed c.args.ring.now c.in-Ok.found.ex
 
 pub returns-in-Ok-push_ext-clause-text : goal.returns-in-Ok-push_ext-clause-text
 returns-in-Ok-push_ext-clause-text g c = λ list reduced kept.
-    ext_told c.args.ring.now c.args.info.now list c.args.basis.now kept c.args.step c.in-Ok.found.rank c.in-Ok.found.ext c.args.out.now.items
-    c.push_ext.new.out.items reduced c.in-Ok.ensures.answer
-    (subst (λ n. c.push_ext.new.out.items ≡ c.args.out.now.items ++ ext_text c.args.ring.now n c.args.step c.in-Ok.found.rank c.in-Ok.found.ext)
+    ext_told c.args.ring.now c.args.info.now list c.args.basis.now kept c.args.step c.in-Ok.found.rank c.in-Ok.found.ext c.args.out.now
+    c.push_ext.new.out reduced c.in-Ok.ensures.answer
+    (subst (λ n. c.push_ext.new.out ≡ c.args.out.now ++ ext_text c.args.ring.now n c.args.step c.in-Ok.found.rank c.in-Ok.found.ext)
     c.as_bytes-name.ensures.value c.in-Ok-push_ext.ensures.ok)

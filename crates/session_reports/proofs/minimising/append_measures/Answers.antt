@@ -9,11 +9,11 @@ pub returns-in_err-append_number-2-clause-err : goal.returns-in_err-append_numbe
 returns-in_err-append_number-2-clause-err c =
     let more = c.in_err-append_number-2.ensures.err in
     on_err c.from_residual-in_err-append_number-2.result
-    (begins_more c.args.out.now.items c.append_number.new.out.items c.append_number-2.new.out.items more.0 (_, c.in_ok-append_number.ensures.ok) more.1)
+    (begins_more c.args.out.now c.append_number.new.out c.append_number-2.new.out more.0 (_, c.in_ok-append_number.ensures.ok) more.1)
 
 pub returns-in_err-push-clause-err : goal.returns-in_err-push-clause-err
 returns-in_err-push-clause-err c =
     on_err c.from_residual-in_err-push.result
     (rw c.in_err-push.ensures.items
-    (begins_more c.args.out.now.items c.append_number.new.out.items c.append_number-2.new.out.items _ (_, c.in_ok-append_number.ensures.ok)
+    (begins_more c.args.out.now c.append_number.new.out c.append_number-2.new.out _ (_, c.in_ok-append_number.ensures.ok)
     c.in_ok-append_number-2.ensures.ok))

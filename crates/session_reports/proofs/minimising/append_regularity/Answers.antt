@@ -9,7 +9,7 @@ returns-in_err-extend_from_slice-2-clause-err c =
 pub returns-clause-err : goal.returns-clause-err
 returns-clause-err c =
     let front =
-    begins_more c.args.out.now.items c.extend_from_slice.new.self.items c.extend_from_slice-2.new.self.items _ (_, c.in_ok-extend_from_slice.ensures.items)
+    begins_more c.args.out.now c.extend_from_slice.new.self c.extend_from_slice-2.new.self _ (_, c.in_ok-extend_from_slice.ensures.items)
     c.in_ok-extend_from_slice-2.ensures.items in
-    err_behind c.args.out.now.items c.extend_from_slice-2.new.self.items c.append_measures.new.out.items c.append_measures.result front
+    err_behind c.args.out.now c.extend_from_slice-2.new.self c.append_measures.new.out c.append_measures.result front
     c.append_measures.ensures.err

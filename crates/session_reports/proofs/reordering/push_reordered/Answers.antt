@@ -17,7 +17,7 @@ returns-in-Err-clause-reports c =
     IfOk-weaker c.refused.result _ _
     (λ step h list positions reduced kept.
     h c.args.ring.now (record { name = string_bytes c.args.info.now.name; rank = c.args.info.now.rank; list = list; kept = kept }) c.args.order
-    c.args.basis.now c.args.out.now.items reduced c.in-Err.ensures.stop)
+    c.args.basis.now c.args.out.now reduced c.in-Err.ensures.stop)
     c.refused.ensures
 
 pub push_listing-requires : goal.push_listing-requires

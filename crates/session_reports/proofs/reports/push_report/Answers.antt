@@ -10,7 +10,7 @@ push_numbers-requires-clause-basis c = (c.requires.basis.0, c.requires.basis.2)
 pub returns-in_ok-push_numbers-in-Numbers-clause-reports : goal.returns-in_ok-push_numbers-in-Numbers-clause-reports
 returns-in_ok-push_numbers-in-Numbers-clause-reports c =
     subst
-    (λ r. Reports c.args.ring.now c.args.info.now c.args.basis.now r c.args.out.now.items c.push_numbers.new.out.items c.in_ok-push_numbers-in-Numbers.field-0)
+    (λ r. Reports c.args.ring.now c.args.info.now c.args.basis.now r c.args.out.now c.push_numbers.new.out c.in_ok-push_numbers-in-Numbers.field-0)
     (sym c.in-Numbers.is) c.in_ok-push_numbers-in-Numbers.ensures.reports
 
 pub push_reordered-requires-clause-ideal : goal.push_reordered-requires-clause-ideal
@@ -19,13 +19,13 @@ push_reordered-requires-clause-ideal c = subst (HasReport c.args.info.now.rank) 
 pub returns-in_ok-push_reordered-in-InOrder-clause-reports : goal.returns-in_ok-push_reordered-in-InOrder-clause-reports
 returns-in_ok-push_reordered-in-InOrder-clause-reports c =
     subst
-    (λ r. Reports c.args.ring.now c.args.info.now c.args.basis.now r c.args.out.now.items c.push_reordered.new.out.items
+    (λ r. Reports c.args.ring.now c.args.info.now c.args.basis.now r c.args.out.now c.push_reordered.new.out
     c.in_ok-push_reordered-in-InOrder.field-0)
     (sym c.in-InOrder.is) c.in_ok-push_reordered-in-InOrder.ensures.reports
 
 pub returns-in-Resolution-clause-reports : goal.returns-in-Resolution-clause-reports
 returns-in-Resolution-clause-reports c =
-    subst (λ r. IfOk c.push_resolution.result (Reports c.args.ring.now c.args.info.now c.args.basis.now r c.args.out.now.items c.push_resolution.new.out.items))
+    subst (λ r. IfOk c.push_resolution.result (Reports c.args.ring.now c.args.info.now c.args.basis.now r c.args.out.now c.push_resolution.new.out))
     (sym c.in-Resolution.is) c.push_resolution.ensures.reports
 
 pub returns-in-Resolution-clause-stop : goal.returns-in-Resolution-clause-stop
@@ -35,7 +35,7 @@ returns-in-Resolution-clause-stop c =
 
 pub returns-in-Minimal-clause-reports : goal.returns-in-Minimal-clause-reports
 returns-in-Minimal-clause-reports c =
-    subst (λ r. IfOk c.push_minimal.result (Reports c.args.ring.now c.args.info.now c.args.basis.now r c.args.out.now.items c.push_minimal.new.out.items))
+    subst (λ r. IfOk c.push_minimal.result (Reports c.args.ring.now c.args.info.now c.args.basis.now r c.args.out.now c.push_minimal.new.out))
     (sym c.in-Minimal.is) c.push_minimal.ensures.reports
 
 pub returns-in-Minimal-clause-stop : goal.returns-in-Minimal-clause-stop
@@ -45,7 +45,7 @@ returns-in-Minimal-clause-stop c =
 
 pub returns-in-Betti-clause-reports : goal.returns-in-Betti-clause-reports
 returns-in-Betti-clause-reports c =
-    subst (λ r. IfOk c.push_betti.result (Reports c.args.ring.now c.args.info.now c.args.basis.now r c.args.out.now.items c.push_betti.new.out.items))
+    subst (λ r. IfOk c.push_betti.result (Reports c.args.ring.now c.args.info.now c.args.basis.now r c.args.out.now c.push_betti.new.out))
     (sym c.in-Betti.is) c.push_betti.ensures.reports
 
 pub returns-in-Betti-clause-stop : goal.returns-in-Betti-clause-stop
@@ -55,7 +55,7 @@ returns-in-Betti-clause-stop c =
 
 pub returns-in-Regularity-clause-reports : goal.returns-in-Regularity-clause-reports
 returns-in-Regularity-clause-reports c =
-    subst (λ r. IfOk c.push_regularity.result (Reports c.args.ring.now c.args.info.now c.args.basis.now r c.args.out.now.items c.push_regularity.new.out.items))
+    subst (λ r. IfOk c.push_regularity.result (Reports c.args.ring.now c.args.info.now c.args.basis.now r c.args.out.now c.push_regularity.new.out))
     (sym c.in-Regularity.is) c.push_regularity.ensures.reports
 
 pub returns-in-Regularity-clause-stop : goal.returns-in-Regularity-clause-stop

@@ -6,7 +6,8 @@ use Rattle.session_top.specs.declared.TheConstants.{SCRIPT_LIMIT}
 use Rattle.session_top.specs.declared.early.Early.{Early}
 use Rattle.session_top.proofs.Going.{Going}
 use Rattle.session_top.proofs.Goings.{going_starts, going_more, going_cut}
-use Rattle.session_top.proofs.Risings.{le_self, le_then, no_read_of_memory, no_write_of_memory, rose_later, same_error}
+use Rattle.byte_ports.proofs.Risings.{le_self, le_then, rose_later}
+use Rattle.session_top.proofs.Risings.{no_read_of_memory, no_write_of_memory, same_error}
 use Rattle.session_top.proofs.Runs.{end_done, last_result_done, last_result_stops, line_stops, long_stops, no_fault_of_refusal, no_fault_of_result, no_zero_of_refusal, no_zero_of_result}
 use Rattle.session_top.proofs.lines.do_all.Goals as goal
 

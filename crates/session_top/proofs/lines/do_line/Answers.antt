@@ -4,7 +4,8 @@ use Rattle.groebner_iface.specs.declared.stop.Stop.TheVariants.{Degree, Pairs}
 use Rattle.session_lang.specs.Lines.{RefusesLine}
 use Rattle.session_top.specs.Limits.{limits_in}
 use Rattle.session_top.proofs.Causes.{division_stopped, run_stopped}
-use Rattle.session_top.proofs.Risings.{le_self, no_write_of_memory, same_error}
+use Rattle.byte_ports.proofs.Risings.{le_self}
+use Rattle.session_top.proofs.Risings.{no_write_of_memory, same_error}
 use Rattle.session_top.proofs.Shown.{refused_stops}
 use Rattle.session_top.proofs.lines.do_line.Goals as goal
 

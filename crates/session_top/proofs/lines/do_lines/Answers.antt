@@ -2,7 +2,8 @@ use Rattle.std.proofs.Common.{IfErr, [], refl, subst}
 use Rattle.std.proofs.KnownBytes.{Consumes-nil, Keeps-refl}
 use Rattle.session_top.specs.Run.{ScriptStops}
 use Rattle.session_top.proofs.Whole.{nothing_done}
-use Rattle.session_top.proofs.Risings.{le_self, no_read_of_memory, no_write_of_memory}
+use Rattle.byte_ports.proofs.Risings.{le_self}
+use Rattle.session_top.proofs.Risings.{no_read_of_memory, no_write_of_memory}
 use Rattle.session_top.proofs.lines.do_lines.Goals as goal
 
 pub returns-in-Err-clause-stops : goal.returns-in-Err-clause-stops

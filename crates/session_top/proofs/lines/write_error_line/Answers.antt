@@ -1,6 +1,6 @@
 use Rattle.std.proofs.Common.{codes}
-use Rattle.session_top.proofs.Endings.{front_after, all_both, front_before, no_text, on_err, after_both}
-use Rattle.session_top.proofs.Risings.{caused, cause_after, le_then, rose_later}
+use Rattle.byte_ports.proofs.Endings.{front_after, all_both, front_before, no_text, on_err, after_both}
+use Rattle.byte_ports.proofs.Risings.{caused, cause_after, le_then, rose_later}
 use Rattle.session_top.proofs.lines.write_error_line.Goals as goal
 
 pub returns-in_err-write_all_to-clause-front : goal.returns-in_err-write_all_to-clause-front

@@ -1,5 +1,5 @@
-use Rattle.session_top.proofs.Endings.{all_two, front_before, front_two, no_text, on_err}
-use Rattle.session_top.proofs.Risings.{caused, cause_after}
+use Rattle.byte_ports.proofs.Endings.{all_two, front_before, front_two, no_text, on_err}
+use Rattle.byte_ports.proofs.Risings.{caused, cause_after}
 use Rattle.session_top.proofs.stops.write_count.Goals as goal
 
 pub returns-in_err-write_all_to-clause-front : goal.returns-in_err-write_all_to-clause-front

@@ -1,7 +1,7 @@
 use Rattle.std.proofs.Common.{codes, ◌++◌}
 use Rattle.std.specs.Fmt.{decimal}
 use Rattle.session_top.specs.Stops.{trail_degree}
-use Rattle.session_top.proofs.Endings.{all_two, front_two, front_before, on_err}
+use Rattle.byte_ports.proofs.Endings.{all_two, front_two, front_before, on_err}
 use Rattle.session_top.proofs.stops.write_degree_line.Goals as goal
 
 pub returns-in_err-write_count-clause-front : goal.returns-in_err-write_count-clause-front

@@ -1,8 +1,8 @@
 use Rattle.std.proofs.Common.{◌≡◌, codes, ◌++◌, length, refl, sym, ap, ◌∙◌}
 use Rattle.std.proofs.lemmas.List.{length-map}
 use Rattle.std.specs.Fmt.{decimal}
-use Rattle.session_top.proofs.Endings.{all_three, after_both, front_after, front_before, no_text, on_err}
-use Rattle.session_top.proofs.Risings.{caused, cause_after, le_then, rose_later}
+use Rattle.byte_ports.proofs.Endings.{all_three, after_both, front_after, front_before, no_text, on_err}
+use Rattle.byte_ports.proofs.Risings.{caused, cause_after, le_then, rose_later}
 use Rattle.session_top.proofs.stops.write_pairs_line.Goals as goal
 
 pub returns-in_err-write_count-clause-front : goal.returns-in_err-write_count-clause-front

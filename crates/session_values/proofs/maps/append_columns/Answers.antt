@@ -22,6 +22,6 @@ pub loop-column-preserved : goal.loop-column-preserved
 loop-column-preserved c =
     let i = c.loop-column.column-index in
     let v = c.column-item.result in
-    lines_step (λ w. entries_text (names_of c.args.ring.now) c.args.rows w ++ 10 ∷ []) c.args.columns.now i v c.args.out.now.items c.loop-column.out.items
-    c.push_cofactors.new.out.items (subst (λ l. i < length l) c.as_slice-column-items.ensures c.loop-column-test.true)
+    lines_step (λ w. entries_text (names_of c.args.ring.now) c.args.rows w ++ 10 ∷ []) c.args.columns.now i v c.args.out.now c.loop-column.out
+    c.push_cofactors.new.out (subst (λ l. i < length l) c.as_slice-column-items.ensures c.loop-column-test.true)
     (subst (λ l. v ≡ get_or l i v) c.as_slice-column-items.ensures c.column-item.is) c.loop-column.invariant c.in-Ok.ensures.ok

@@ -4,4 +4,4 @@ use Rattle.session_values.proofs.maps.append_columns.Given as goal
 
 abbrev pub invariant-loop-column : goal.invariant-loop-column
 invariant-loop-column l =
-    l.out.items ≡ l.initial.out.items ++ flat_map (λ c. entries_text (names_of l.ring) l.rows c ++ 10 ∷ []) (take l.column-index l.columns)
+    l.out ≡ l.initial.out ++ flat_map (λ c. entries_text (names_of l.ring) l.rows c ++ 10 ∷ []) (take l.column-index l.columns)

@@ -6,5 +6,5 @@ returns-in_err-append_map_line-clause-err c = on_err c.from_residual.result c.in
 
 pub returns-clause-err : goal.returns-clause-err
 returns-clause-err c =
-    err_behind c.args.out.now.items c.append_map_line.new.out.items c.append_columns.new.out.items c.append_columns.result
+    err_behind c.args.out.now c.append_map_line.new.out c.append_columns.new.out c.append_columns.result
     (_, c.in_ok-append_map_line.ensures.ok) c.append_columns.ensures.err

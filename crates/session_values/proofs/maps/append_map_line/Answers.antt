@@ -7,17 +7,17 @@ pub returns-in_err-append_word-clause-err : goal.returns-in_err-append_word-clau
 returns-in_err-append_word-clause-err c =
     let more = c.in_err-append_word.ensures.err in
     on_err c.from_residual-in_err-append_word.result
-    (begins_more c.args.out.now.items c.extend_from_slice.new.self.items c.append_word.new.out.items more.0 (_, c.in_ok-extend_from_slice.ensures.items) more.1)
+    (begins_more c.args.out.now c.extend_from_slice.new.self c.append_word.new.out more.0 (_, c.in_ok-extend_from_slice.ensures.items) more.1)
 
 pub returns-clause-err : goal.returns-clause-err
 returns-clause-err c =
     let front =
-    begins_more c.args.out.now.items c.extend_from_slice.new.self.items c.append_word.new.out.items _ (_, c.in_ok-extend_from_slice.ensures.items)
+    begins_more c.args.out.now c.extend_from_slice.new.self c.append_word.new.out _ (_, c.in_ok-extend_from_slice.ensures.items)
     c.in_ok-append_word.ensures.ok in
-    err_behind c.args.out.now.items c.append_word.new.out.items c.append_counts.new.out.items c.append_counts.result front c.append_counts.ensures.err
+    err_behind c.args.out.now c.append_word.new.out c.append_counts.new.out c.append_counts.result front c.append_counts.ensures.err
 
 pub returns-clause-ok : goal.returns-clause-ok
 returns-clause-ok c =
-    text_behind c.args.out.now.items c.extend_from_slice.new.self.items c.append_word.new.out.items c.append_counts.new.out.items _ c.as_bytes.result.now _ _ 32
+    text_behind c.args.out.now c.extend_from_slice.new.self c.append_word.new.out c.append_counts.new.out _ c.as_bytes.result.now _ _ 32
     c.append_counts.result (c.as_bytes.ensures.value ∙ c.format.ensures.text) c.in_ok-extend_from_slice.ensures.items c.in_ok-append_word.ensures.ok
     c.append_counts.ensures.ok

@@ -7,7 +7,7 @@ use Rattle.session_values.proofs.maps.append_maps.Goals as goal
 pub returns-in-Err-clause-err : goal.returns-in-Err-clause-err
 returns-in-Err-clause-err c =
     let more = c.in-Err.ensures.err in
-    begins_more c.args.out.now.items c.loop-k.out.items c.append_map.new.out.items more.0 c.loop-k.invariant.0 more.1
+    begins_more c.args.out.now c.loop-k.out c.append_map.new.out more.0 c.loop-k.invariant.0 more.1
 
 pub append_map-requires : goal.append_map-requires
 append_map-requires c =
@@ -15,9 +15,9 @@ append_map-requires c =
 
 pub loop-k-preserved : goal.loop-k-preserved
 loop-k-preserved c =
-    maps_step c.args.ring.now c.args.maps.now c.loop-k.k c.index-maps-k.result c.args.out.now.items c.loop-k.out.items c.append_map.new.out.items
+    maps_step c.args.ring.now c.args.maps.now c.loop-k.k c.index-maps-k.result c.args.out.now c.loop-k.out c.append_map.new.out
     c.loop-k-test.true
     c.index-maps-k.is c.loop-k.invariant.0 c.loop-k.invariant.1 c.in-Ok.ensures.ok
 
 pub returns-clause-ok : goal.returns-clause-ok
-returns-clause-ok c = maps_done c.args.ring.now c.args.maps.now c.loop-k.k c.args.out.now.items c.loop-k.out.items c.loop-k-test.false c.loop-k.invariant.1
+returns-clause-ok c = maps_done c.args.ring.now c.args.maps.now c.loop-k.k c.args.out.now c.loop-k.out c.loop-k-test.false c.loop-k.invariant.1

@@ -16,10 +16,10 @@ some_text (x ∷ K) some = refl
 
 pub returns-then-coefficients-eq0-clause-ok : goal.returns-then-coefficients-eq0-clause-ok
 returns-then-coefficients-eq0-clause-ok c =
-    subst (λ t. OnOk c.append_each.result (c.append_each.new.out.items ≡ c.args.out.now.items ++ t))
+    subst (λ t. OnOk c.append_each.result (c.append_each.new.out ≡ c.args.out.now ++ t))
     (none_text c.args.coefficients.now c.if-coefficients-eq0.true) c.append_each.ensures.ok
 
 pub returns-else-coefficients-eq0-clause-ok : goal.returns-else-coefficients-eq0-clause-ok
 returns-else-coefficients-eq0-clause-ok c =
-    subst (λ t. OnOk c.append_each-else-coefficients-eq0.result (c.append_each-else-coefficients-eq0.new.out.items ≡ c.args.out.now.items ++ t))
+    subst (λ t. OnOk c.append_each-else-coefficients-eq0.result (c.append_each-else-coefficients-eq0.new.out ≡ c.args.out.now ++ t))
     (some_text c.args.coefficients.now c.if-coefficients-eq0.false) c.append_each-else-coefficients-eq0.ensures.ok

@@ -12,33 +12,33 @@ returns-in_err-extend_from_slice-2-clause-err c =
 
 pub returns-in_err-append_coefficients-clause-err : goal.returns-in_err-append_coefficients-clause-err
 returns-in_err-append_coefficients-clause-err c =
-    let out = c.args.out.now.items in
-    let named = c.extend_from_slice-2.new.self.items in
-    let word = c.extend_from_slice.new.self.items in
+    let out = c.args.out.now in
+    let named = c.extend_from_slice-2.new.self in
+    let word = c.extend_from_slice.new.self in
     let front = begins_more out word named _ (_, c.in_ok-extend_from_slice.ensures.items) c.in_ok-extend_from_slice-2.ensures.items in
     let more = c.in_err-append_coefficients.ensures.err in
-    on_err c.from_residual-in_err-append_coefficients.result (begins_more out named c.append_coefficients.new.out.items more.0 front more.1)
+    on_err c.from_residual-in_err-append_coefficients.result (begins_more out named c.append_coefficients.new.out more.0 front more.1)
 
 pub returns-clause-err : goal.returns-clause-err
 returns-clause-err c =
-    let out = c.args.out.now.items in
-    let named = c.extend_from_slice-2.new.self.items in
-    let word = c.extend_from_slice.new.self.items in
-    let numbers = c.append_coefficients.new.out.items in
+    let out = c.args.out.now in
+    let named = c.extend_from_slice-2.new.self in
+    let word = c.extend_from_slice.new.self in
+    let numbers = c.append_coefficients.new.out in
     let front = begins_more out word named _ (_, c.in_ok-extend_from_slice.ensures.items) c.in_ok-extend_from_slice-2.ensures.items in
-    err_behind out numbers c.append_measures.new.out.items c.append_measures.result
+    err_behind out numbers c.append_measures.new.out c.append_measures.result
     (begins_more out named numbers _ front c.in_ok-append_coefficients.ensures.ok)
     c.append_measures.ensures.err
 
 pub returns-clause-ok : goal.returns-clause-ok
 returns-clause-ok c =
     let K = c.args.numbers.now.series.coefficients.items in
-    four_behind c.args.out.now.items c.extend_from_slice.new.self.items c.extend_from_slice-2.new.self.items c.append_coefficients.new.out.items
-    c.append_measures.new.out.items _ _ (coefficients_text K) (measures_text c.args.numbers.now.dimension c.args.numbers.now.degree)
+    four_behind c.args.out.now c.extend_from_slice.new.self c.extend_from_slice-2.new.self c.append_coefficients.new.out
+    c.append_measures.new.out _ _ (coefficients_text K) (measures_text c.args.numbers.now.dimension c.args.numbers.now.degree)
     c.append_measures.result c.in_ok-extend_from_slice.ensures.items
     c.in_ok-extend_from_slice-2.ensures.items
-    (subst (λ l. c.append_coefficients.new.out.items ≡ c.extend_from_slice-2.new.self.items ++ coefficients_text l) c.as_slice.ensures.value
+    (subst (λ l. c.append_coefficients.new.out ≡ c.extend_from_slice-2.new.self ++ coefficients_text l) c.as_slice.ensures.value
     c.in_ok-append_coefficients.ensures.ok)
     (on_ok_weaker c.append_measures.result
-    (λ e. e ∙ ap₂ (λ m n. c.append_coefficients.new.out.items ++ measures_text m n) (search (arith, ints, to_z-of_z)) (search (arith, ints, to_z-of_z)))
+    (λ e. e ∙ ap₂ (λ m n. c.append_coefficients.new.out ++ measures_text m n) (search (arith, ints, to_z-of_z)) (search (arith, ints, to_z-of_z)))
     c.append_measures.ensures.ok)

@@ -6,5 +6,5 @@ returns-in_err-append_word-clause-err c = on_err c.from_residual.result c.in_err
 
 pub returns-clause-err : goal.returns-clause-err
 returns-clause-err c =
-    err_behind c.args.out.now.items c.append_word.new.out.items c.append_word-2.new.out.items c.append_word-2.result (_, c.in_ok-append_word.ensures.ok)
+    err_behind c.args.out.now c.append_word.new.out c.append_word-2.new.out c.append_word-2.result (_, c.in_ok-append_word.ensures.ok)
     c.append_word-2.ensures.err

@@ -6,5 +6,5 @@ returns-in_err-append_heading-clause-err c = on_err c.from_residual.result c.in_
 
 pub returns-clause-err : goal.returns-clause-err
 returns-clause-err c =
-    err_behind c.args.out.now.items c.append_heading.new.out.items c.append_degrees.new.out.items c.append_degrees.result
+    err_behind c.args.out.now c.append_heading.new.out c.append_degrees.new.out c.append_degrees.result
     (_, c.in_ok-append_heading.ensures.ok) c.append_degrees.ensures.err

@@ -10,17 +10,17 @@ pub returns-in_err-append_word-2-clause-err : goal.returns-in_err-append_word-2-
 returns-in_err-append_word-2-clause-err c =
     let more = c.in_err-append_word-2.ensures.err in
     on_err c.from_residual-in_err-append_word-2.result
-    (begins_more c.args.out.now.items c.append_word.new.out.items c.append_word-2.new.out.items more.0 (_, c.in_ok-append_word.ensures.ok) more.1)
+    (begins_more c.args.out.now c.append_word.new.out c.append_word-2.new.out more.0 (_, c.in_ok-append_word.ensures.ok) more.1)
 
 pub returns-clause-err : goal.returns-clause-err
 returns-clause-err c =
     let front =
-    begins_more c.args.out.now.items c.append_word.new.out.items c.append_word-2.new.out.items _ (_, c.in_ok-append_word.ensures.ok)
+    begins_more c.args.out.now c.append_word.new.out c.append_word-2.new.out _ (_, c.in_ok-append_word.ensures.ok)
     c.in_ok-append_word-2.ensures.ok in
-    err_behind c.args.out.now.items c.append_word-2.new.out.items c.append_word-3.new.out.items c.append_word-3.result front c.append_word-3.ensures.err
+    err_behind c.args.out.now c.append_word-2.new.out c.append_word-3.new.out c.append_word-3.result front c.append_word-3.ensures.err
 
 pub returns-clause-ok : goal.returns-clause-ok
 returns-clause-ok c =
-    line_of_three c.args.out.now.items c.append_word.new.out.items c.append_word-2.new.out.items c.append_word-3.new.out.items c.args.word.now c.args.name.now
+    line_of_three c.args.out.now c.append_word.new.out c.append_word-2.new.out c.append_word-3.new.out c.args.word.now c.args.name.now
     c.as_bytes.result.now _ _ _ 32 32 10 c.append_word-3.result refl refl (c.as_bytes.ensures.value ∙ c.format.ensures.text) c.in_ok-append_word.ensures.ok
     c.in_ok-append_word-2.ensures.ok c.append_word-3.ensures.ok

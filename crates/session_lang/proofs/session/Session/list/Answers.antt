@@ -23,10 +23,10 @@ returns-in-Ok c count kept =
     let value = value_of info c.found-value.result.stored.now in
     let name : c.as_bytes-2.result.now ≡ string_bytes info.name = search rules in
     let has = subst (λ n. HasValue c.args.self.now n ring value) c.as_bytes.ensures.value c.found-value.ensures.has in
-    was_done c.args.self.now (statements.Gens c.args.name.now) c.args.self.now c.args.out.now.items c.push_listing.new.out.items count count kept kept
+    was_done c.args.self.now (statements.Gens c.args.name.now) c.args.self.now c.args.out.now c.push_listing.new.out count count kept kept
     (listing (codes "gens") ring value value.list) (refl, (ring, value, has, refl)) (rw (sym name, sym c.list.ensures) c.in-Ok.ensures.ok) refl refl
 
 pub returns-in-Err : goal.returns-in-Err
 returns-in-Err c count kept =
-    was_stopped c.args.self.now (statements.Gens c.args.name.now) c.args.self.now c.args.out.now.items c.push_listing.new.out.items count count kept kept
+    was_stopped c.args.self.now (statements.Gens c.args.name.now) c.args.self.now c.args.out.now c.push_listing.new.out count count kept kept
     causes.Memory refl c.in-Err.ensures.err (refl, refl)

@@ -8,13 +8,13 @@ use Rattle.session_lang.proofs.session.Session.perform.Goals as goal
 
 pub returns-in-Nothing-clause-performed : goal.returns-in-Nothing-clause-performed
 returns-in-Nothing-clause-performed g c =
-    let text = c.args.out.now.items in
+    let text = c.args.out.now in
     was_done c.args.self.now c.args.stated c.args.self.now text text _ _ _ _ [] (subst (λ s. Does c.args.self.now s c.args.self.now []) (sym c.in-Nothing.is) (refl, refl))
     (nothing_behind text) refl refl
 
 pub returns-in-Ring-clause-performed : goal.returns-in-Ring-clause-performed
 returns-in-Ring-clause-performed g c =
-    let text = c.args.out.now.items in
+    let text = c.args.out.now in
     was_done c.args.self.now c.args.stated c.state_ring.new.self text text _ _ _ _ []
     (subst (λ s. Does c.args.self.now s c.state_ring.new.self []) (sym c.in-Ring.is) (c.state_ring.ensures, refl)) (nothing_behind text) refl refl
 
@@ -30,19 +30,19 @@ define-requires g c =
 
 pub returns-in-Ideal-clause-performed : goal.returns-in-Ideal-clause-performed
 returns-in-Ideal-clause-performed g c =
-    performed_as c.in-Ideal.is (ideal_given c.define.result (c.define.ensures c.args.out.now.items _ _))
+    performed_as c.in-Ideal.is (ideal_given c.define.result (c.define.ensures c.args.out.now _ _))
 
 pub define-requires-in-Module : goal.define-requires-in-Module
 define-requires-in-Module g c = subst (IsFit c.args.self.now) c.in-Module.is c.requires.fit
 
 pub returns-in-Module-clause-performed : goal.returns-in-Module-clause-performed
-returns-in-Module-clause-performed g c = performed_as c.in-Module.is (c.define-in-Module.ensures c.args.out.now.items _ _)
+returns-in-Module-clause-performed g c = performed_as c.in-Module.is (c.define-in-Module.ensures c.args.out.now _ _)
 
 pub make-requires-after_bounds : goal.make-requires-after_bounds
 make-requires-after_bounds g c κs within = subst (IsFit c.args.self.now) c.in-Let.is c.requires.fit
 
 pub returns-in-Let-clause-performed : goal.returns-in-Let-clause-performed
-returns-in-Let-clause-performed g c = performed_as c.in-Let.is (c.make.ensures.performed c.args.out.now.items)
+returns-in-Let-clause-performed g c = performed_as c.in-Let.is (c.make.ensures.performed c.args.out.now)
 
 pub list-requires : goal.list-requires
 list-requires g c = subst (IsFit c.args.self.now) c.in-Gens.is c.requires.fit

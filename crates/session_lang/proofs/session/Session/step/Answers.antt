@@ -18,7 +18,7 @@ returns-in-Ok-clause-steps g c =
     let stated =
     states c.args.self.now c.self.inside.ring c.self.inside.names c.self.inside.stored.items c.self.view_is c.self.invariant
     (option_copied c.as_ref.result) c.self.inside.names c.as_ref.ensures.value refl c.args.line.now c.in-Ok.stated c.in-Ok.ensures in
-    performed_line c.args.self.now c.args.line.now c.in-Ok.stated c.perform.new.self c.args.out.now.items c.perform.new.out.items c.perform.result stated
+    performed_line c.args.self.now c.args.line.now c.in-Ok.stated c.perform.new.self c.args.out.now c.perform.new.out c.perform.result stated
     c.perform.ensures.performed.done
 
 pub returns-in-Ok-clause-stop : goal.returns-in-Ok-clause-stop
