@@ -136,7 +136,8 @@ impl LineText {
         };
         let run = self.runs[last];
         if run.end < size {
-            self.bytes.truncate(size - most.min((size - run.end) as u128) as usize);
+            self.bytes
+                .truncate(size - most.min((size - run.end) as u128) as usize);
         } else if u128::from(run.length) <= most {
             self.runs.truncate(last);
             self.zeros -= run.length;
