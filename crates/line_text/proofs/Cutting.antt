@@ -1,5 +1,5 @@
 -- A text that is cut off
-use Rattle.std.proofs.Common.{List, [], ap, append_assoc, arith, drop, get_or, length, refl, set, suc, sym, take, ℕ, ◌+◌, ◌-◌, ◌++◌, ◌<◌, ◌∙◌, ◌∷◌, ◌≡◌, ◌≤◌}
+use Rattle.std.proofs.Common.{List, [], ap, append_assoc, arith, drop, get_or, length, refl, set, suc, sym, take, ℕ, ◌+◌, ◌++◌, ◌<◌, ◌∙◌, ◌∷◌, ◌≡◌, ◌≤◌}
 use Rattle.std.proofs.lemmas.List.{drop_all, length-append, length-drop, length-take-le, set_split, take-append-drop, take-append-le, take_all, take_more}
 use Rattle.line_text.specs.declared.text.Run.{Run}
 use Rattle.line_text.specs.Texts.{AreInOrder, IsCutOff, bytes_of_runs, spread, zero_bytes}

@@ -1,5 +1,5 @@
 -- Runs of entries that are 0
-use Rattle.std.proofs.Common.{◌≡◌, ◌++◌, ◌+◌, ◌<◌, ◌≤◌, ◌∙◌, List, [], ◌∷◌, ℕ, zero, suc, map, codes, refl, ap, arith, add-zero}
+use Rattle.std.proofs.Common.{◌≡◌, ◌++◌, ◌+◌, ◌<◌, ◌≤◌, ◌∙◌, List, ◌∷◌, ℕ, zero, suc, map, codes, refl, ap, arith, add-zero}
 use Rattle.std.specs.List.{range_with_len}
 use Rattle.line_text.specs.Texts.{zero_entries}
 use Rattle.poly_text.specs.Writing.{tails}

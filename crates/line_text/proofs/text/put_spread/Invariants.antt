@@ -1,4 +1,4 @@
-use Rattle.std.proofs.Common.{List, drop, length, ℕ, ◌++◌, ◌≡◌, ◌≤◌}
+use Rattle.std.proofs.Common.{drop, length, ◌≤◌}
 use Rattle.line_text.specs.Texts.{AreInOrder, spread}
 use Rattle.line_text.proofs.Sending.{IsUnderway}
 use Rattle.line_text.proofs.text.put_spread.Given as goal

@@ -12,6 +12,9 @@ returns-in-Err-clause-stops g c = nothing_done _ _ _ _ [] (Consumes-nil _) (Keep
 pub returns-in-Err-with_capacity-clause-stops : goal.returns-in-Err-with_capacity-clause-stops
 returns-in-Err-with_capacity-clause-stops g c = nothing_done _ _ _ _ [] (Consumes-nil _) (Keeps-refl _)
 
+pub returns-in-Err-new-clause-stops : goal.returns-in-Err-new-clause-stops
+returns-in-Err-new-clause-stops g c = nothing_done _ _ _ _ [] (Consumes-nil _) (Keeps-refl _)
+
 pub returns-clause-stops : goal.returns-clause-stops
 returns-clause-stops g c =
     subst

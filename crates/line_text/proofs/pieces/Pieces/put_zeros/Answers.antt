@@ -1,4 +1,4 @@
-use Rattle.std.proofs.Common.{◌*◌, ◌%◌, ◌+◌, ◌≡◌, ◌≤◌, arith}
+use Rattle.std.proofs.Common.{◌%◌, arith}
 use Rattle.byte_ports.proofs.Risings.{le_then}
 use Rattle.line_text.proofs.Sending.{zeros_cut, zeros_end, zeros_end_front, zeros_more}
 use Rattle.line_text.proofs.pieces.Pieces.put_zeros.Goals as goal

@@ -1,4 +1,3 @@
-use Rattle.std.proofs.Common.{[], ◌∷◌, ◌++◌}
 use Rattle.line_text.proofs.Runs.{order_behind, spread_more}
 use Rattle.line_text.proofs.text.LineText.extend_from_slice.Goals as goal
 

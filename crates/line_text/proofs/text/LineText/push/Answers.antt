@@ -1,4 +1,4 @@
-use Rattle.std.proofs.Common.{[], ◌∷◌, ◌++◌}
+use Rattle.std.proofs.Common.{[], ◌∷◌}
 use Rattle.line_text.proofs.Runs.{order_behind, spread_more}
 use Rattle.line_text.proofs.text.LineText.push.Goals as goal
 

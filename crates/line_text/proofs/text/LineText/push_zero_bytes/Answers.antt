@@ -1,4 +1,4 @@
-use Rattle.std.proofs.Common.{[], ◌∷◌, ◌++◌, ◌∙◌, ◌≡◌, ap, arith, length}
+use Rattle.std.proofs.Common.{◌≡◌, arith, length}
 use Rattle.line_text.proofs.Runs.{bytes_of_more, order_run, spread_run}
 use Rattle.line_text.proofs.text.LineText.push_zero_bytes.Goals as goal
 

@@ -1,4 +1,4 @@
-use Rattle.std.proofs.Common.{◌*◌, ◌+◌, refl}
+use Rattle.std.proofs.Common.{◌*◌, refl}
 use Rattle.line_text.proofs.Runs.{bytes_of_entries, pushed}
 use Rattle.line_text.proofs.text.LineText.push_zeros.Goals as goal
 

@@ -1,6 +1,6 @@
-use Rattle.std.proofs.Common.{[], ap, arith, length, refl, subst, sym, take, ◌+◌, ◌-◌, ◌++◌, ◌∷◌, ◌≡◌, ◌≤◌}
+use Rattle.std.proofs.Common.{arith, length, refl, subst, sym, take, ◌+◌, ◌-◌, ◌≡◌, ◌≤◌}
 use Rattle.line_text.specs.declared.text.Run.{Run}
-use Rattle.line_text.specs.Texts.{AreInOrder, IsCutOff, bytes_of_runs, spread}
+use Rattle.line_text.specs.Texts.{spread}
 use Rattle.line_text.proofs.Cutting.{cut_bytes, cut_part, cut_run, end_is, last_length, none_end, runs_set, runs_split}
 use Rattle.line_text.proofs.Runs.{last_within, length_spread}
 use Rattle.line_text.proofs.text.LineText.shorten.Goals as goal

@@ -1,4 +1,4 @@
-use Rattle.std.proofs.Common.{length, take, ◌≡◌, ◌≤◌, min}
+use Rattle.std.proofs.Common.{length, take, ◌≡◌}
 use Rattle.line_text.proofs.text.LineText.truncate.Given as goal
 
 abbrev pub invariant-loop-self : goal.invariant-loop-self
