@@ -12,7 +12,7 @@ use std::alloc::Global;
 use std::marker::Model;
 
 /// How many bytes are written at a time.
-const PIECE: usize = 65_536;
+const PIECE: usize = 32_768;
 
 /// Bytes on their way to a sink: many small ones are gathered and written as one piece. Contracts see those that are held.
 #[derive(Drop)]
@@ -26,7 +26,7 @@ impl Model for Pieces {
 
     ghost view = { λ p. take p.held p.bytes.items };
 
-    ghost invariant = { λ p. (p.held ≤ 65536) × (vec_len p.bytes ≡ 65536) };
+    ghost invariant = { λ p. (p.held ≤ 32768) × (vec_len p.bytes ≡ 32768) };
 }
 
 impl Pieces {
@@ -49,7 +49,7 @@ impl Pieces {
 
     // Holds these bytes too, for which there is room.
     fn hold(&mut self, bytes: &[u8])
-        requires { length self.old + length bytes.now ≤ 65536 }
+        requires { length self.old + length bytes.now ≤ 32768 }
         ensures { self.new ≡ self.old ++ bytes.now }
     {
         let end = self.held + bytes.len();

@@ -2,7 +2,8 @@
 ghost use Rattle.std.specs.Prelude.{◌≡◌, ◌++◌, ◌≤◌, OnOk, OnErr};
 ghost use Rattle.poly_text.specs.Writing.{between};
 
-use line_text::{LineText, NoMemory};
+use crate::NoMemory;
+use line_text::LineText;
 
 /// Appends what stands between two terms that follow one another.
 pub fn append_between(out: &mut LineText, last: u128, position: u128) -> Result<(), NoMemory>

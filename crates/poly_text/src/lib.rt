@@ -9,7 +9,7 @@ ghost use Rattle.term_lists.specs.Vectors.{HasVariables};
 ghost use Rattle.poly_text.specs.Texts.{entries_text, list_text, names_of, poly_text, vector_text};
 
 use itoa::Buffer;
-use line_text::{LineText, NoMemory, whole_or_none};
+use line_text::{LineText, whole_or_none};
 use list::append_list;
 use module_vectors::{Ring, Vect, VectList};
 use polynomial::append_terms;
@@ -22,6 +22,7 @@ mod polynomial;
 mod text_laws;
 mod vector;
 
+pub use no_memory::NoMemory;
 pub use text_laws::{lists, numbers, polynomials, vectors};
 
 /// Appends the text of a polynomial: its terms, the greatest first. After an error nothing is appended.

@@ -6,8 +6,8 @@ ghost use Rattle.term_lists.specs.Vectors.{HasVariables};
 ghost use Rattle.poly_text.specs.Texts.{list_text, names_of};
 ghost use Rattle.poly_text.specs.Writing.{IsFront};
 
-use crate::push_vect;
-use line_text::{LineText, NoMemory};
+use crate::{NoMemory, push_vect};
+use line_text::LineText;
 use module_vectors::{Ring, Vect};
 use std::alloc::Global;
 

@@ -6,8 +6,9 @@ ghost use Rattle.term_lists.specs.Vectors.{HasVariables};
 ghost use Rattle.poly_text.specs.Texts.{poly_text, powers_texts, term_text};
 ghost use Rattle.poly_text.specs.Writing.{IsFront, factor_start, power_text, powers_rest};
 
+use crate::NoMemory;
 use itoa::Buffer;
-use line_text::{LineText, NoMemory};
+use line_text::LineText;
 use module_vectors::Key;
 
 /// Appends a number.

@@ -5,9 +5,10 @@ ghost use Rattle.term_lists.specs.Vectors.{HasVariables};
 ghost use Rattle.poly_text.specs.Texts.{terms_at, entries_text, entry_texts, joined, poly_text, term_text};
 ghost use Rattle.poly_text.specs.Writing.{AscendsFrom, IsFront, IsStretch, entries_rest, later_entries, term_start};
 
+use crate::NoMemory;
 use crate::gaps::append_between;
 use crate::polynomial::{append_term, append_terms};
-use line_text::{LineText, NoMemory};
+use line_text::LineText;
 use module_vectors::Key;
 
 /// Appends a term, behind a `+` where it is not the first.
